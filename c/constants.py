@@ -181,6 +181,16 @@ VM_PROT_EXECUTE u32 0x4 running
 NUMBERS = {
     "archive.rt": [(rf"ArchiveForm::{form} => (\d+),", f"GM_ARCHIVE_{name}")
                    for form, name in (("NoArchive", "NONE"), ("Gnu", "GNU"), ("Bsd", "BSD"), ("Thin", "THIN"))],
+    "audit.rt": [*((rf"FindingKind::{kind}\b.*?place, (\d+),", f"GM_FINDING_{name}") for kind, name in (
+                     ("Refused", "REFUSED"), ("Lossy", "LOSSY"), ("Table", "TABLE"), ("NoEntries", "NO_ENTRIES"), ("Archive", "ARCHIVE"), ("More", "MORE"),
+                     ("Past", "PAST"), ("Cut", "CUT"), ("Unreadable", "UNREADABLE"), ("Signature", "SIGNATURE"), ("Layout", "LAYOUT"))),
+                 (r"fn item_row.*?row_with\(place, (\d+),", "GM_FINDING_ITEM"),
+                 *((rf"AuditedPart::{kind} => (\d+),", f"GM_LIST_{kind.upper()}")
+                   for kind in ("Sections", "Relocations", "Symbols", "Exports", "Imports", "Fixups", "Bindings", "Signature", "Members", "Entries")),
+                 *((rf"Soundness::{kind} => (\d+),", f"GM_{kind.upper()}") for kind in ("Sound", "Unended", "Faulty"))],
+    "fields.rt": [(rf"FieldKind::{kind} => (\d+),", f"GM_FIELD_{name}")
+                  for kind, name in (("Number", "NUMBER"), ("Hexadecimal", "HEXADECIMAL"), ("Version", "VERSION"), ("SourceVersion", "SOURCE_VERSION"),
+                                     ("Platform", "PLATFORM"), ("Protection", "PROTECTION"), ("Name", "NAME"), ("Text", "TEXT"), ("Uuid", "UUID"))],
     "find.rt": [(r"None => gm_export \{[^}]*kind: (\d+)", "GM_NO_EXPORT"), (r"::Regular \{ \.\. \} => (\d+),", "GM_ADDRESS"),
                 (r"::Reexport \{ \.\. \} => (\d+),", "GM_REEXPORTED"), (r"::Stub \{ \.\. \} => (\d+),", "GM_STUB")],
     "fixups.rt": [(r"FixupKind::Rebase [^=]*=> \((\d+),", "GM_REBASE"), (r"FixupKind::Bind [^=]*=> \((\d+),", "GM_BIND"),
@@ -202,6 +212,9 @@ NUMBERS = {
 
 # The verdicts on how an image is hardened are in the second of these crates by name and meaning, and in the first one by number.
 VERDICTS = "crates/goblin_mach_c/src/security.rt", "crates/mach_audit/src/security.rt"
+
+# The cpus that have names.
+CPUS = "crates/mach_records/src/cpu_names.rt"
 
 # The functions of names, each with its argument. After it are the functions in the sources that return the names, or the constant whose group
 # it names. The last text is the prefix that is left out of a name.
@@ -371,7 +384,17 @@ def names(found):
         rows += [(name, name[len(left_out):]) for name in group if not rows or name in dict(more())]
         lines += ["", head + " {", f"    switch ({head[:-1].split(' ')[-1]}) {{", *(f"    case GM_{name}: return \"{text}\";" for name, text in rows)]
         lines += ["    default: return NULL;", "    }", "}"]
-    return "".join(line + "\n" for line in [*lines, *kind_names(), *verdict_words("name", 1), *verdict_words("meaning", 2)])
+    return "".join(line + "\n" for line in [*lines, *cpu_names(), *kind_names(), *verdict_words("name", 1), *verdict_words("meaning", 2)])
+
+
+def cpu_names():
+    """Returns the function of the names of cpus."""
+    text = sources("mach_records")[pathlib.Path(CPUS)]
+    rows = re.findall(r'"(\w+)" => row\("\1", (CPU_TYPE_\w+), (\d+)\),', text)
+    if len(rows) != text.count("=> row("):
+        refuse("a cpu's name isn't read")
+    return ["", "const char *gm_cpu_name(uint32_t cputype, uint32_t cpusubtype) {", "    const uint32_t kind = cpusubtype & ~GM_CPU_SUBTYPE_MASK;",
+            *(f'    if (cputype == GM_{cputype} && kind == {kind}) return "{name}";' for name, cputype, kind in rows), "    return NULL;", "}"]
 
 
 def verdict_words(what, field):

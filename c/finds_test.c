@@ -238,6 +238,39 @@ static bool is_text(const given *g, uint64_t at, uint64_t place, uint64_t len, u
     return code ? !place && !len : place == at && place + len < g->len && !g->bytes[place + len];
 }
 
+static uint64_t len_before_zero(const uint8_t *at, uint64_t limit) {
+    uint64_t len = 0;
+    while (len < limit && at[len]) len++;
+    return len;
+}
+
+/* Checks a field of a command by the bytes. It is at a place in the command. */
+static void field(const given *g, const gm_command *c, const gm_command_field *r, uint64_t at) {
+    if (at + r->width > c->size || !r->name[0] || r->name[23] || r->kind > GM_FIELD_UUID || r->reserved) DIE("a field past its command, or without a name");
+    bool is_text = r->kind == GM_FIELD_TEXT, is_uuid = r->kind == GM_FIELD_UUID, is_name = r->kind == GM_FIELD_NAME;
+    uint64_t number = r->width == 8 ? wide(g, c->offset + at) : r->width == 4 ? word(g, c->offset + at) : 0;
+    if (r->number != number || (r->width == 16) != (is_uuid || is_name) || (is_text && r->width != 4)) DIE("the field %s is another number", r->name);
+    bool has_bytes = is_uuid || is_name || (is_text && number < c->size);
+    uint64_t place = has_bytes ? c->offset + (is_text ? number : at) : 0, limit = !has_bytes ? 0 : is_text ? c->size - number : 16;
+    uint64_t len = is_uuid ? limit : len_before_zero(g->bytes + place, limit);
+    if (r->has_bytes != has_bytes || r->place != place || r->len != len) DIE("the field %s has other bytes", r->name);
+}
+
+/* Checks the fields of a command: they lie one after the other after cmd and cmdsize. */
+static void fields(const given *g, const gm_command *c) {
+    static const char *const names[] = {"symoff", "nsyms", "stroff", "strsize"};
+    gm_command_field rows[GM_COMMAND_FIELDS + 1], one;
+    memset(rows, 0x5a, sizeof rows);
+    uint64_t n = gm_command_fields(OF, c, 0, rows, GM_COMMAND_FIELDS + 1), at = 8;
+    if (n > GM_COMMAND_FIELDS || rows[n].name[0] != 0x5a || rows[n].reserved != 0x5a5a5a5a) DIE("a field too many");
+    for (uint64_t k = 0; k < n; at += rows[k++].width, said++) {
+        field(g, c, &rows[k], at);
+        if (gm_command_fields(OF, c, k, &one, 1) != 1 || memcmp(&one, &rows[k], sizeof one)) DIE("another field by its index");
+        if (c->cmd == GM_LC_SYMTAB && strcmp(rows[k].name, names[k])) DIE("the field %s of symbols", rows[k].name);
+    }
+    if (gm_command_fields(OF, c, n, &one, 1) || gm_command_fields(OF, c, 0, NULL, 0)) DIE("fields without end or room");
+}
+
 static void commands_say(const given *g) {
     bool x86 = g->image.cputype == GM_CPU_TYPE_X86 || g->image.cputype == GM_CPU_TYPE_X86_64;
     bool has_uuid = false, has_version = false, has_part = false, has_linker = false;
@@ -247,6 +280,7 @@ static void commands_say(const given *g) {
     gm_encrypted_part part;
     gm_command_text text;
     for (uint64_t i = 0; gm_commands(OF, i, &c, 1); i++) {
+        fields(g, &c);
         uint64_t at = c.offset;
         uint32_t platform = 0, minos = at + 8;
         switch (c.cmd) {

@@ -465,6 +465,46 @@ static void says(const given *g) {
     tested++;
 }
 
+enum { FINDINGS = 8 };
+
+/* Audits a file again, with room for `cap` rows. Returns the code. The audit is the same as before, or it is refused and changes nothing. */
+static uint32_t audits_again(const given *g, uint64_t cap, const gm_finding *all, uint64_t count, uint32_t verdict, const gm_memory *m) {
+    gm_finding again[FINDINGS];
+    gm_error e = {0};
+    uint64_t count_again = 7;
+    uint32_t verdict_again = 7;
+    memset(again, 0x5a, sizeof again);
+    uint32_t code = gm_audit(g->bytes, g->len, UINT64_MAX, cap ? again : NULL, cap, &count_again, &verdict_again, m, &e);
+    if (code ? code != GM_NO_MEMORY || e.code != code || count_again != 7 || verdict_again != 7 : count_again != count || verdict_again != verdict)
+        DIE("another audit, or a refusal that changed something");
+    const uint64_t written = code ? 0 : (cap < count ? cap : count) * sizeof *all;
+    if (memcmp(all, again, written)) DIE("other findings");
+    for (uint64_t i = written; i < sizeof again; i++)
+        if (((uint8_t *)again)[i] != 0x5a) DIE("a row that was not to be written");
+    return code;
+}
+
+/* Audits the file with room for each number of rows, and with memory that is refused at each request. */
+static void audits(const given *g) {
+    gm_finding all[FINDINGS];
+    uint64_t count = 7;
+    uint32_t verdict = 7;
+    if (gm_audit(g->bytes, g->len, UINT64_MAX, all, FINDINGS, &count, &verdict, NULL, NULL)) DIE("an audit is refused");
+    if (verdict > GM_FAULTY || (verdict == GM_SOUND) != (count == 0)) DIE("%" PRIu64 " findings, and verdict %u", count, verdict);
+    for (uint64_t i = 0; i < FINDINGS && i < count; i++)
+        if (!strcmp(gm_finding_kind(all[i].kind), "none") || (all[i].kind == GM_FINDING_LAYOUT) != (all[i].layout.rule != 0)
+            || (all[i].kind == GM_FINDING_SIGNATURE) != (all[i].signature.kind != 0)) DIE("a finding without a kind, or without its fault");
+    for (uint64_t cap = 0; cap <= FINDINGS; cap++)
+        if (audits_again(g, cap, all, count, verdict, NULL)) DIE("an audit is refused");
+    for (uint64_t k = 1, refused = 1; refused; k++) {
+        counted c = {0, k, 0};
+        gm_memory m = {&c, take, give};
+        refused = audits_again(g, FINDINGS, all, count, verdict, &m);
+        if (c.held) DIE("a block was kept");
+    }
+    tested++;
+}
+
 /* Checks that the layout of an image after other bytes is that of the image. */
 static void lies_behind(const given *g) {
     const uint64_t front = 16;
@@ -1187,6 +1227,7 @@ static void check(const uint8_t *bytes, uint64_t len) {
     same_in_batches(named("entries"), &g);
     same_in_batches(named("table"), &g);
     tells(told_of_table, &g);
+    audits(&g);
     for (uint32_t mode = GM_STRICT; mode <= GM_LOSSY; mode++) {
         if (opens(&g, mode)) continue;
         char *all = lines(&lists[0], &g, LIMIT);
@@ -1456,6 +1497,9 @@ static void damage(const uint8_t *bytes, uint64_t len) {
     uint32_t agreement;
     gm_entitlements_agree(bytes, len, &g.image, &agreement, NULL, &e);
     gm_requirement_text(bytes, len, &g.image, chance() % 7, library, chance() % 5, &number, NULL, &e);
+    gm_entitlement_item value;
+    uint64_t texts_len;
+    gm_entitlement_items(bytes, len, &g.image, chance() % 2, &value, chance() % 2, &number, library, chance() % 5, &texts_len, NULL, &e);
     for (uint64_t i = 0; i < LISTS; i++) {
         uint64_t first = chance() % 2 ? 0 : made_up(len), cap = chance() % 5;
         uint8_t *out = malloc(cap * lists[i].size + !cap);
@@ -1519,6 +1563,8 @@ static int print_names(void) {
     for (uint32_t n = 1; strcmp(gm_layout_part(n), "none"); n++) printf("Part %u %s\n", n, gm_layout_part(n));
     for (uint32_t n = 1; strcmp(gm_signature_kind(n), "none"); n++) printf("Kind %u %s\n", n, gm_signature_kind(n));
     if (strcmp(gm_signature_kind(GM_SIGNATURE_NONE), "none") || strcmp(gm_signature_kind(UINT32_MAX), "none")) DIE("a number that is none has a name");
+    if (strcmp(gm_finding_kind(GM_FINDING_NONE), "none") || strcmp(gm_finding_kind(UINT32_MAX), "none") || strcmp(gm_finding_list(GM_LIST_NONE), "none")
+        || strcmp(gm_finding_list(UINT32_MAX), "none")) DIE("a number that is none has a name");
     if (strcmp(gm_layout_rule(GM_LAYOUT_NONE), "none") || strcmp(gm_layout_rule(UINT32_MAX), "none") || strcmp(gm_layout_part(GM_PART_NONE), "none")
         || strcmp(gm_layout_part(UINT32_MAX), "none")) DIE("a number that is none has a name");
     return 0;
@@ -1737,6 +1783,86 @@ static void check_requirements(void) {
     free(bytes);
 }
 
+/* Requests the values of entitlements in arrays of each length, and compares them with lines, one a row: depth, kind, key, text and number. */
+static void values_are(const given *g, uint32_t is_der, uint32_t code, const char *lines) {
+    enum { MOST = 32, ROOM = 256 };
+    gm_entitlement_item all[MOST], some[MOST];
+    char texts[ROOM], some_texts[ROOM], found[2048];
+    uint64_t count = 7777, len = 7777, at = 0;
+    gm_error e = {0};
+    memset(all, 0x5a, sizeof all);
+    memset(texts, 0x5a, sizeof texts);
+    uint32_t answer = gm_entitlement_items(OF, is_der, all, MOST, &count, texts, ROOM, &len, NULL, &e);
+    if (answer != code || e.code != code) DIE("values of entitlements: code %u", answer);
+    if (code && (count != 7777 || len != 7777 || *(uint8_t *)all != 0x5a || *texts != 0x5a)) DIE("a refusal changed values of entitlements");
+    if (code) return;
+    if (count > MOST || len > ROOM) DIE("too many values");
+    for (uint64_t i = 0; i < count; i++) {
+        const gm_entitlement_item *it = all + i;
+        if (it->key > len || it->key_len > len - it->key || it->text > len || it->text_len > len - it->text) DIE("a text out of the texts");
+        at += (uint64_t)snprintf(found + at, sizeof found - at, "%u %u %.*s=%.*s %" PRId64 "\n", it->depth, it->kind, (int)it->key_len, texts + it->key,
+                                 (int)it->text_len, texts + it->text, (int64_t)it->number);
+    }
+    if (strlen(lines) != at || memcmp(lines, found, at)) DIE("other values: %.*s", (int)at, found);
+    for (uint64_t cap = 0; cap <= count + 1; cap++) {
+        for (uint64_t room = 0; room <= len + 1; room += cap == count ? 1 : len + 1) {
+            uint64_t some_count = 7, some_len = 7, rows = cap < count ? cap : count, bytes = room < len ? room : len;
+            memset(some, 0x5a, sizeof some);
+            memset(some_texts, 0x5a, sizeof some_texts);
+            if (gm_entitlement_items(OF, is_der, cap ? some : NULL, cap, &some_count, room ? some_texts : NULL, room, &some_len, NULL, &e))
+                DIE("fewer values were refused");
+            if (some_count != count || some_len != len || memcmp(some, all, rows * sizeof *all) || memcmp(some_texts, texts, bytes)) DIE("other values in less room");
+            if (((uint8_t *)(some + rows))[0] != 0x5a || some_texts[bytes] != 0x5a) DIE("values after the room");
+        }
+    }
+    for (uint64_t k = 1;; k++) {
+        counted c = {0, k, 0};
+        gm_memory m = {&c, take, give};
+        uint64_t some_count = 7, some_len = 7;
+        uint32_t with = gm_entitlement_items(OF, is_der, some, MOST, &some_count, some_texts, ROOM, &some_len, &m, NULL);
+        if (c.held) DIE("a block was kept");
+        if (with == GM_NO_MEMORY && (some_count != 7 || some_len != 7)) DIE("refused memory left something of values");
+        if (with == GM_NO_MEMORY) continue;
+        if (with || some_count != count || some_len != len) DIE("memory changed values");
+        break;
+    }
+}
+
+/* Checks the values of entitlements: of each kind, in both notations, of none, and of those that can't be read. */
+static void check_values(void) {
+    static const char xml[] = "<plist version=\"1.0\"><dict><key>a&amp;b</key><string>&lt;&#x7a;</string><key></key><array><true/><integer>-5</integer>"
+                              "<dict/><dict><key>k</key><date>2024-02-29T23:59:59Z</date></dict><string/></array><key>n</key>"
+                              "<integer>18446744073709551615</integer><key>r</key><real>1.5</real><key>f</key><false/></dict></plist>";
+    static const char der[] = "\x70\x1e\x02\x01\x01\xb0\x19\x30\x0b\x0c\x01" "a" "\x30\x06\x02\x01\xff\x01\x01\x00\x30\x0a\x0c\x02" "bc" "\x0c\x04" "d&\x80" "f";
+    given g = {0};
+    uint8_t *bytes = image_of_entitlements(xml, der, sizeof der - 1, &g.len);
+    g.bytes = bytes;
+    if (gm_open(bytes, g.len, 0, GM_STRICT, NULL, &g.image, NULL)) DIE("values that don't open");
+    values_are(&g, 0, GM_OK, "0 8 = 0\n1 5 a&b=<z 0\n1 7 = 0\n2 1 = 1\n2 3 = -5\n2 8 = 0\n2 8 = 0\n3 4 k= 20240229235959\n2 5 = 0\n1 2 n= -1\n1 6 r= 0\n"
+                             "1 1 f= 0\n");
+    values_are(&g, 7, GM_OK, "0 8 = 0\n1 7 a= 0\n2 3 = -1\n2 1 = 0\n1 5 bc=d&\x80" "f 0\n");
+    memset(bytes + 48 + 12 + 4, 0x7f, 4);
+    values_are(&g, 0, GM_SHORT, "");
+    bytes[48] = 0;
+    values_are(&g, 1, GM_BAD_MAGIC, "");
+    free(bytes);
+    for (uint64_t k = 0; k < 4; k++) {
+        static const struct { const char *xml, *der; uint64_t der_len; uint32_t code[2]; } rows[] = {
+            {NULL, NULL, 0, {GM_OK, GM_OK}}, {"<plist", NULL, 0, {GM_MALFORMED, GM_OK}}, {NULL, der, sizeof der - 2, {GM_OK, GM_MALFORMED}},
+            {"", "", 0, {GM_MALFORMED, GM_MALFORMED}}};
+        bytes = image_of_entitlements(rows[k].xml, rows[k].der, rows[k].der_len, &g.len);
+        g.bytes = bytes;
+        if (gm_open(bytes, g.len, 0, GM_STRICT, NULL, &g.image, NULL)) DIE("no values that don't open");
+        for (uint32_t is_der = 0; is_der < 2; is_der++) values_are(&g, is_der, rows[k].code[is_der], "");
+        free(bytes);
+    }
+    bytes = image_of_symbols((const uint8_t[17]){0}, 17, 1, &g.len);
+    g.bytes = bytes;
+    if (gm_open(bytes, g.len, 0, GM_STRICT, NULL, &g.image, NULL)) DIE("no signature that doesn't open");
+    values_are(&g, 0, GM_OK, "");
+    free(bytes);
+}
+
 /* Checks whether entitlements agree: for each of the numbers, for blobs that can't be read, and for a signature that can't. */
 static void check_entitlements(void) {
     static const char a[] = "<plist version=\"1.0\"><dict><key>a</key><true/></dict></plist>";
@@ -1865,6 +1991,7 @@ int main(int argc, char **argv) {
     check_symbols();
     check_edges();
     check_entitlements();
+    check_values();
     check_security();
     check_requirements();
     check_shared();

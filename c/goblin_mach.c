@@ -177,6 +177,12 @@ uint64_t gm_sections(const uint8_t *bytes, uint64_t len, const gm_image *image, 
     return gmr_sections(BYTES, len, image, command, sections, first, AT(out), cap);
 }
 
+uint64_t gmr_command_fields(const uint8_t *, uint64_t, const gm_image *, const gm_command *, uint64_t, gm_command_field *, uint64_t);
+uint64_t gm_command_fields(const uint8_t *bytes, uint64_t len, const gm_image *image, const gm_command *command, uint64_t first, gm_command_field *out,
+                           uint64_t cap) {
+    return gmr_command_fields(BYTES, len, image, command, first, AT(out), cap);
+}
+
 uint64_t gmr_relocations(const uint8_t *, uint64_t, const gm_image *, uint32_t, uint32_t, uint64_t, gm_relocation *, uint64_t);
 uint64_t gm_relocations(const uint8_t *bytes, uint64_t len, const gm_image *image, uint32_t reloff, uint32_t nreloc, uint64_t first, gm_relocation *out,
                         uint64_t cap) {
@@ -245,10 +251,21 @@ SAID(code_signature, gm_signature)
 SAID(is_as_signed, uint32_t)
 SAID(entitlements_agree, uint32_t)
 
+uint32_t gmr_entitlement_items(const uint8_t *, uint64_t, const gm_image *, uint32_t, gm_entitlement_item *, uint64_t, uint64_t *, char *, uint64_t,
+                               uint64_t *, gm_error *);
+uint32_t gm_entitlement_items(const uint8_t *bytes, uint64_t len, const gm_image *image, uint32_t is_der, gm_entitlement_item *out, uint64_t cap,
+                              uint64_t *count, char *texts, uint64_t texts_cap, uint64_t *texts_len, const gm_memory *memory, gm_error *error)
+    WITH_MEMORY(gmr_entitlement_items(BYTES, len, image, is_der, AT(out), cap, count, AT(texts), texts_cap, texts_len, TOLD))
+
 uint32_t gmr_requirement_text(const uint8_t *, uint64_t, const gm_image *, uint32_t, char *, uint64_t, uint64_t *, gm_error *);
 uint32_t gm_requirement_text(const uint8_t *bytes, uint64_t len, const gm_image *image, uint32_t type, char *out, uint64_t cap, uint64_t *needed,
                              const gm_memory *memory, gm_error *error)
     WITH_MEMORY(gmr_requirement_text(BYTES, len, image, type, AT(out), cap, needed, TOLD))
+
+uint32_t gmr_audit(const uint8_t *, uint64_t, uint64_t, gm_finding *, uint64_t, uint64_t *, uint32_t *, gm_error *);
+uint32_t gm_audit(const uint8_t *bytes, uint64_t len, uint64_t limit, gm_finding *out, uint64_t cap, uint64_t *count, uint32_t *verdict,
+                  const gm_memory *memory, gm_error *error)
+    WITH_MEMORY(gmr_audit(BYTES, len, limit, AT(out), cap, count, verdict, TOLD))
 
 uint32_t gmr_resolve(const uint8_t *, uint64_t, const gm_given_file *, uint64_t, gm_answer *, uint64_t, gm_unused_file *, uint64_t, gm_resolution *, gm_error *);
 uint32_t gm_resolve(const uint8_t *bytes, uint64_t len, const gm_given_file *files, uint64_t count, gm_answer *out, uint64_t cap, gm_unused_file *unused,
@@ -415,6 +432,10 @@ const char *gm_layout_part(uint32_t part) { return parts[part < sizeof parts / s
 static const char *const kinds[] = {"none", GM_SIGNATURE_KINDS(WORDS)};
 const char *gm_signature_kind(uint32_t kind) { return kinds[kind < sizeof kinds / sizeof *kinds ? kind : 0]; }
 
+static const char *const findings[] = {"none", GM_FINDING_KINDS(WORDS)}, *const found_lists[] = {"none", GM_FINDING_LISTS(WORDS)};
+const char *gm_finding_kind(uint32_t kind) { return findings[kind < sizeof findings / sizeof *findings ? kind : 0]; }
+const char *gm_finding_list(uint32_t list) { return found_lists[list < sizeof found_lists / sizeof *found_lists ? list : 0]; }
+
 const char *gm_code_name(uint32_t code) {
     static const char *const names[] = {"ok", "malformed", "bad magic", "out of the bytes, or no text", "too many", "out of memory", "no rows", "no space",
         "no image for the cpu"};
@@ -433,31 +454,4 @@ const char *gm_relocation_name(uint32_t cputype, uint32_t type) {
     case GM_CPU_TYPE_X86: return x86_name(type);
     default: return NULL;
     }
-}
-
-/* the cpus that MachOObjectFile::getArchTriple of LLVM knows, by the names that it gives them (ArchFlag) */
-const char *gm_cpu_name(uint32_t cputype, uint32_t cpusubtype) {
-    static const struct { uint32_t cputype, cpusubtype; const char *name; } cpus[] = {
-        {GM_CPU_TYPE_X86, GM_CPU_SUBTYPE_I386_ALL, "i386"},
-        {GM_CPU_TYPE_X86_64, GM_CPU_SUBTYPE_X86_64_ALL, "x86_64"},
-        {GM_CPU_TYPE_X86_64, GM_CPU_SUBTYPE_X86_64_H, "x86_64h"},
-        {GM_CPU_TYPE_ARM, GM_CPU_SUBTYPE_ARM_V4T, "armv4t"},
-        {GM_CPU_TYPE_ARM, GM_CPU_SUBTYPE_ARM_V5TEJ, "armv5e"},
-        {GM_CPU_TYPE_ARM, GM_CPU_SUBTYPE_ARM_XSCALE, "xscale"},
-        {GM_CPU_TYPE_ARM, GM_CPU_SUBTYPE_ARM_V6, "armv6"},
-        {GM_CPU_TYPE_ARM, GM_CPU_SUBTYPE_ARM_V6M, "armv6m"},
-        {GM_CPU_TYPE_ARM, GM_CPU_SUBTYPE_ARM_V7, "armv7"},
-        {GM_CPU_TYPE_ARM, GM_CPU_SUBTYPE_ARM_V7EM, "armv7em"},
-        {GM_CPU_TYPE_ARM, GM_CPU_SUBTYPE_ARM_V7K, "armv7k"},
-        {GM_CPU_TYPE_ARM, GM_CPU_SUBTYPE_ARM_V7M, "armv7m"},
-        {GM_CPU_TYPE_ARM, GM_CPU_SUBTYPE_ARM_V7S, "armv7s"},
-        {GM_CPU_TYPE_ARM64, GM_CPU_SUBTYPE_ARM64_ALL, "arm64"},
-        {GM_CPU_TYPE_ARM64, GM_CPU_SUBTYPE_ARM64E, "arm64e"},
-        {GM_CPU_TYPE_ARM64_32, GM_CPU_SUBTYPE_ARM64_32_V8, "arm64_32"},
-        {GM_CPU_TYPE_POWERPC, GM_CPU_SUBTYPE_POWERPC_ALL, "ppc"},
-        {GM_CPU_TYPE_POWERPC64, GM_CPU_SUBTYPE_POWERPC_ALL, "ppc64"},
-    };
-    for (size_t i = 0; i < sizeof cpus / sizeof *cpus; i++)
-        if (cpus[i].cputype == cputype && cpus[i].cpusubtype == (cpusubtype & ~GM_CPU_SUBTYPE_MASK)) return cpus[i].name;
-    return NULL;
 }

@@ -48,6 +48,16 @@ NUMBERED(build_versions, gm_build_version, gm_build_versions(OF, first, rows, RO
 NUMBERED(dyld_environment, gm_command_text, gm_dyld_environment(OF, first, rows, ROWS))
 NUMBERED(fileset_entries, gm_fileset_entry, gm_fileset_entries(OF, first, rows, ROWS))
 
+/* Counts the fields of all commands. */
+static uint64_t command_fields(const given *g) {
+    static gm_command of[ROWS];
+    gm_command_field rows[GM_COMMAND_FIELDS];
+    uint64_t found = 0, n;
+    for (uint64_t first = 0; goes_on() && (n = gm_commands(OF, first, of, ROWS)) != 0; first += n)
+        for (uint64_t i = 0; i < n; i++) found += gm_command_fields(OF, &of[i], 0, rows, GM_COMMAND_FIELDS);
+    return found;
+}
+
 /* Counts what single commands say. */
 static uint64_t said(const given *g) {
     gm_image_uuid uuid;
@@ -132,6 +142,15 @@ static uint64_t security(const given *g) {
     uint64_t found = 0, n;
     gm_error e;
     while (goes_on() && !gm_security(OF, found, rows, ROWS, &n, NULL, &e) && n) found += n;
+    return found;
+}
+static uint64_t entitlements(const given *g) {
+    static gm_entitlement_item rows[ROWS];
+    static char texts[1 << 18];
+    uint64_t found = 0, n, len;
+    gm_error e;
+    for (uint32_t is_der = 0; goes_on() && is_der < 2; is_der++)
+        found += !gm_entitlement_items(OF, is_der, rows, ROWS, &n, texts, sizeof texts, &len, NULL, &e) ? n : 0;
     return found;
 }
 static uint64_t signature(const given *g) {
@@ -295,14 +314,23 @@ static uint64_t resolve(const given *g) {
     return found;
 }
 
+/* Audits the file, each list to its end. */
+static uint64_t audit(const given *g) {
+    static gm_finding rows[ROWS];
+    uint64_t found = 0;
+    uint32_t verdict;
+    gm_error e;
+    return gm_audit(g->bytes, g->len, UINT64_MAX, rows, ROWS, &found, &verdict, NULL, &e) ? 0 : found;
+}
+
 #define CALL(name) {#name, name}
 static const struct { const char *name; uint64_t (*call)(const given *); } all[] = {
     CALL(entries), CALL(container), CALL(open_all), CALL(entries64), CALL(members), CALL(archive_symbols), CALL(archive_find), CALL(write_fat), CALL(image_for),
-    CALL(resolve), CALL(commands), CALL(segments), CALL(sections), CALL(relocations), CALL(symbols), CALL(libraries),
+    CALL(resolve), CALL(commands), CALL(command_fields), CALL(segments), CALL(sections), CALL(relocations), CALL(symbols), CALL(libraries),
     CALL(run_paths), CALL(ids), CALL(data_in_code), CALL(indirect_symbols), CALL(linker_options), CALL(build_tools), CALL(notes), CALL(find), CALL(exports),
     CALL(tree), CALL(fixups), CALL(opcode_imports), CALL(bindings), CALL(weak_binds), CALL(rebases), CALL(function_starts), CALL(slots), CALL(slot_at),
-    CALL(layout), CALL(signature), CALL(signature_faults), CALL(security), CALL(requirements), CALL(all_sections), CALL(build_versions), CALL(dyld_environment), CALL(fileset_entries),
-    CALL(said), CALL(parts_at), CALL(exports_each)};
+    CALL(layout), CALL(entitlements), CALL(signature), CALL(signature_faults), CALL(security), CALL(requirements), CALL(all_sections),
+    CALL(build_versions), CALL(dyld_environment), CALL(fileset_entries), CALL(said), CALL(parts_at), CALL(exports_each), CALL(audit)};
 
 /* Reads the bytes of a file, at most 4 MB of them. Returns whether it can be read. */
 static int read_file(const char *name, given *g) {

@@ -246,6 +246,29 @@ static const char *arm64_name(uint32_t type) {
     }
 }
 
+const char *gm_cpu_name(uint32_t cputype, uint32_t cpusubtype) {
+    const uint32_t kind = cpusubtype & ~GM_CPU_SUBTYPE_MASK;
+    if (cputype == GM_CPU_TYPE_X86 && kind == 3) return "i386";
+    if (cputype == GM_CPU_TYPE_X86_64 && kind == 3) return "x86_64";
+    if (cputype == GM_CPU_TYPE_X86_64 && kind == 8) return "x86_64h";
+    if (cputype == GM_CPU_TYPE_ARM && kind == 5) return "armv4t";
+    if (cputype == GM_CPU_TYPE_ARM && kind == 7) return "armv5e";
+    if (cputype == GM_CPU_TYPE_ARM && kind == 8) return "xscale";
+    if (cputype == GM_CPU_TYPE_ARM && kind == 6) return "armv6";
+    if (cputype == GM_CPU_TYPE_ARM && kind == 14) return "armv6m";
+    if (cputype == GM_CPU_TYPE_ARM && kind == 9) return "armv7";
+    if (cputype == GM_CPU_TYPE_ARM && kind == 16) return "armv7em";
+    if (cputype == GM_CPU_TYPE_ARM && kind == 12) return "armv7k";
+    if (cputype == GM_CPU_TYPE_ARM && kind == 15) return "armv7m";
+    if (cputype == GM_CPU_TYPE_ARM && kind == 11) return "armv7s";
+    if (cputype == GM_CPU_TYPE_ARM64 && kind == 0) return "arm64";
+    if (cputype == GM_CPU_TYPE_ARM64 && kind == 2) return "arm64e";
+    if (cputype == GM_CPU_TYPE_ARM64_32 && kind == 1) return "arm64_32";
+    if (cputype == GM_CPU_TYPE_POWERPC && kind == 0) return "ppc";
+    if (cputype == GM_CPU_TYPE_POWERPC64 && kind == 0) return "ppc64";
+    return NULL;
+}
+
 const char *gm_kind_name(uint32_t kind) {
     switch (kind) {
     case GM_KIND_EMPTY: return "an empty file";

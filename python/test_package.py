@@ -337,17 +337,11 @@ class Items(unittest.TestCase):
 
 
 class Architectures(unittest.TestCase):
-    @unittest.skipUnless(hasattr(_library.lib, "gm_cpu_name"), "the library has no names of cpus")
-    def test_are_those_of_the_library(self):
-        call = _library.lib.gm_cpu_name
-        call.restype, call.argtypes = ctypes.c_char_p, [ctypes.c_uint32, ctypes.c_uint32]
-        for cpu in (*goblin_mach.CpuType, 0, 99, 1 << 31):
-            for kind in (*range(300), 0x80000002, 0x80000003):
-                name = call(cpu, kind)
-                self.assertEqual(_arch.arch_name(cpu, kind), name.decode() if name else f"unknown({int(cpu)},{kind & 0xFFFFFF})", (cpu, kind))
-
-    def test_have_names_of_their_own(self):
-        self.assertEqual(len(set(_arch.NAMES.values())), len(_arch.NAMES))
+    def test_have_the_names_of_llvm(self):
+        for cpu, kind, name in ((goblin_mach.CpuType.X86_64, 3, "x86_64"), (goblin_mach.CpuType.X86_64, 8, "x86_64h"),
+                                (goblin_mach.CpuType.ARM, 9, "armv7"), (goblin_mach.CpuType.ARM64, 0x80000002, "arm64e"),
+                                (goblin_mach.CpuType.ARM64_32, 1, "arm64_32"), (goblin_mach.CpuType.POWERPC64, 0, "ppc64")):
+            self.assertEqual(_arch.arch_name(cpu, kind), name)
         self.assertEqual(_arch.arch_name(99, 0xFF000003), "unknown(99,3)")
 
 

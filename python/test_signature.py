@@ -1,6 +1,8 @@
 """Tests of signatures: what a signature says, and its faults, for images that are signed here. `c/check` runs it."""
 
+import datetime
 import hashlib
+import json
 import os
 import plistlib
 import unittest
@@ -94,6 +96,25 @@ class Signatures(unittest.TestCase):
                 self.assertEqual((found.entitlements_agreement, found.entitlements_agree, found.is_as_signed()), (says, agree, True))
                 self.assertIn(found.entitlements_agreement, goblin_mach.AGREEMENTS)
 
+    def test_values_of_entitlements(self):
+        given = {"a&b": "<z", "": [True, -5, {}, {"k": datetime.datetime(2024, 2, 29, 23, 59, 59)}, ""], "n": 2 ** 64 - 1, "r": 1.5, "f": False,
+                 "deep": {"er": {"er": [[["\u00e9"]]]}}}
+        wanted = {**given, "": [True, -5, {}, {"k": "2024-02-29T23:59:59Z"}, ""], "r": None}
+        der = b"\x70\x1e\x02\x01\x01\xb0\x19\x30\x0b\x0c\x01a\x30\x06\x02\x01\xff\x01\x01\x00\x30\x0a\x0c\x02bc\x0c\x04d&\x80f"
+        found = self.image(signed(plistlib.dumps(given, sort_keys=False), der)).signature
+        self.assertEqual((found.entitlements_in_xml, list(found.entitlements_in_xml)), (wanted, list(given)))
+        self.assertEqual(json.loads(json.dumps(found.entitlements_in_xml)), wanted)
+        self.assertEqual(found.entitlements_in_der, {"a": [-1, False], "bc": "d&\udc80f"})
+        again = b"<plist><dict><key>a</key><dict><key>b</key><true/></dict><key>a</key><array><false/></array></dict></plist>"
+        self.assertEqual(self.image(signed(again)).signature.entitlements_in_xml, {"a": {"b": True}})
+        self.assertEqual((self.image(signed()).signature.entitlements_in_xml, self.image(signed()).signature.entitlements_in_der), (GIVEN, None))
+        self.assertEqual(self.image(signed(b"<plist><dict/></plist>")).signature.entitlements_in_xml, {})
+        self.assertIsNone(self.image(signed(None)).signature.entitlements_in_xml)
+        for xml, in_der, name in ((b"no list", None, "entitlements_in_xml"), (None, der[:-1], "entitlements_in_der"), (b"", None, "entitlements_in_xml")):
+            with self.subTest(xml=xml), self.assertRaises(goblin_mach.Refused) as met:
+                getattr(self.image(signed(xml, in_der)).signature, name)
+            self.assertEqual(met.exception.code, goblin_mach.ErrorCode.MALFORMED)
+
     def test_requirements(self):
         whole, other = blob(0xFADE0C00, big(1, 6, 2, 2) + b"id\0\0" + big(3)), blob(0xFADE0C00, big(2, 0))
         given = big(3, 3, 36, 5, 36 + len(whole), 4, 36) + whole + other
@@ -165,6 +186,8 @@ class Signatures(unittest.TestCase):
             found.is_as_signed()
         with self.assertRaises(ValueError):
             found.entitlements_agree
+        with self.assertRaises(ValueError):
+            found.entitlements_in_xml
         with self.assertRaises(ValueError):
             found.requirements
         with self.assertRaises(ValueError):

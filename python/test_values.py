@@ -6,6 +6,7 @@ import io
 import itertools
 import json
 import os
+import random
 import re
 import struct
 import unittest
@@ -13,8 +14,10 @@ import unittest
 import goblin_mach
 import test_goblin_mach as made
 from goblin_mach import LoadCommand, Refused, __main__
-from goblin_mach._commands import FIELDS, fields_of
+from goblin_mach._fields import MOST, fields_of
 from goblin_mach._item import Item
+from records import FIELDS
+from records import fields_of as read_again
 
 TOP = os.path.dirname(made.HERE)
 BYTES_OF = {"text": "I", "uuid": "16s"}
@@ -72,7 +75,7 @@ class Json(unittest.TestCase):
                 self.assertEqual(json.loads(image.json())["arch"], image.arch)
         kinds = {name for name, item in vars(goblin_mach).items() if isinstance(item, type) and issubclass(item, Item)}
         self.assertEqual(kinds - met, {"FatEntry", "Member", "ArchiveSymbol", "Owner", "NumberedSection", "SymbolProvider", "Relocation",
-                                       "SignatureFault", "Item", "Encryption", "FoundSymbol", "Function", "Answer", "UnusedFile"})
+                                       "SignatureFault", "Item", "Encryption", "FoundSymbol", "Function", "Answer", "UnusedFile", "Finding"})
 
     def test_names_and_bytes(self):
         one = goblin_mach.Image(made.with_symbols(b"_b\xff"))
@@ -164,11 +167,33 @@ class Commands(unittest.TestCase):
         self.assertEqual(commands["BUILD_VERSION"], {"platform": 1, "minos": 0xB0000, "sdk": 0xB0000, "ntools": 1})
         self.assertEqual(commands["CODE_SIGNATURE"], {"dataoff": 0x4040, "datasize": 0x120})
 
+    def is_as_read_again(self, number, data):
+        self.assertEqual(list(fields_of(number, data).items()), list(read_again(number, data).items()))
+
+    def test_of_all_samples_as_read_again(self):
+        for path in [*SAMPLES, COMMANDS]:
+            for _, image in goblin_mach.open(path).images():
+                for command in until_refused(image.commands()):
+                    self.is_as_read_again(command.cmd, command.data)
+
+    def test_of_any_bytes_as_read_again(self):
+        chance = random.Random(25)
+        for number in FIELDS:
+            for order in ("little", "big"):
+                for _ in range(20):
+                    body = number.to_bytes(4, order) + bytes(chance.choice((0, 0, 0, 1, 8, 24, 0x2F, 0xFF)) for _ in range(chance.randrange(120)))
+                    self.is_as_read_again(number, memoryview(body))
+
+    def test_no_command_has_more_fields(self):
+        self.assertEqual(max(map(len, FIELDS.values())), MOST)
+
     def test_of_every_length_and_order(self):
         for number, fields in FIELDS.items():
             size = 8 + sum(struct.calcsize("<" + BYTES_OF.get(kind, kind)) for _, kind in fields)
             for order, letter in (("little", "<"), ("big", ">")):
                 body = struct.pack(letter + "2I", number, size) + bytes((7, 0, 0, 0)[:: 1 if letter == "<" else -1]) * ((size - 8) // 4)
+                for length in range(size + 1):
+                    self.is_as_read_again(number, memoryview(body[:length]))
                 counts = [len(fields_of(number, memoryview(body[:length]))) for length in range(size + 1)]
                 self.assertEqual(counts, sorted(counts), order)
                 self.assertEqual(counts[-1], sum(2 if kind == "text" else 1 for _, kind in fields))

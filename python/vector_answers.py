@@ -3,13 +3,16 @@
 import re
 
 import goblin_mach
-from goblin_mach import (REQUIREMENTS, Archive, FatEntry, FatPart, FileType, HeaderFlags, Image, LoadCommand, Platform, Refused, Relocation, Stab, SymbolType,
-                         _memory)
+from goblin_mach import REQUIREMENTS, Archive, FatEntry, FatPart, Image, Refused, _memory
 from goblin_mach.signature import requirement_of
+from vector_names import NAMES
 
 MODES = {"strict": goblin_mach.STRICT, "lossy": goblin_mach.LOSSY}
 LEFT_OUT = {"mach", "input", "images"}
 """The calls that the package doesn't have."""
+NO_LIMIT = 2**64 - 1
+SOUNDNESS = ("sound", "unended", "faulty")
+"""The verdicts on a file, in the order of the package's."""
 
 
 # ---- errors; the package has fewer kinds of them than the vectors
@@ -18,12 +21,19 @@ ERRORS = {"malformed": "malformed", "bad magic": "bad-magic", "out of the bytes,
 CALLED = {"malformed": "malformed", "bad-magic": "bad-magic", "bad-offset": "short", "too-big": "short", "bad-input": "short", "too-short": "too-short"}
 ERROR = re.compile(rf"(\berror |\()({'|'.join(CALLED)})[^)]*")
 UNKNOWN = re.compile(r"(verdict \S+) \(.*\)")
+NAMED = re.compile(r"((?:answer|unused) .*) \(\".*\"\)(.*)")
+UNREAD = re.compile(r"(finding (?!.*\bsignature ).* error) .*")
 
 
 def plain(line):
-    """Returns a wanted line, with errors of the kinds that the package has. It doesn't say why a verdict is unknown."""
+    """Returns a wanted line, with errors of the kinds that the package has. It doesn't say why a verdict is unknown, nor with which libraries a search
+    ended, and says in other words why a finding can't be read."""
     if UNKNOWN.fullmatch(line):
         return UNKNOWN.sub(r"\1 unknown", line)
+    if NAMED.fullmatch(line):
+        return NAMED.sub(r"\1\2", line)
+    if UNREAD.fullmatch(line):
+        return UNREAD.sub(r"\1", line)
     parts = line.split('"')
     parts[::2] = [ERROR.sub(lambda found: found[1] + CALLED[found[2]], part) for part in parts[::2]]
     return '"'.join(parts)
@@ -249,6 +259,33 @@ def write_fat(vector, data):
     return [f"size {len(written)}", *(f"{at:#x}: {row.hex()}" for at, row in rows if any(row)), "end"]
 
 
+# ---- a program and its libraries
+
+def resolved_line(image, it):
+    how = "absolute" if it.is_absolute else "at"
+    found = f" in {it.file} {how} {it.address:#x}" if it.place == "found" else ""
+    place = {"no main program": "no-main"}.get(it.place, hyphened(it.place))
+    is_open = not it.is_settled
+    return f"answer {quoted(it.binding.name)} of {provider(image, it.binding)} {place}{found}{words_if(weak=it.is_weak, open=is_open)}"
+
+
+def unused(it):
+    return f"unused {it.file} {'given-before' if it.why == 'given before' else f'nothing-for {it.cputype:#x}'}"
+
+
+def resolve(vector, data):
+    libraries = [(path.decode(), image) for path, image in vector.libraries]
+    try:
+        it = goblin_mach.resolve((vector.wanted_name.decode(), data), libraries, vector.number if vector.numbers else None)
+    except goblin_mach.FileRefused as refused:
+        return [f"refused {refused.file}", why(refused)]
+    image = Image(data)
+    lines = [resolved_line(image, each) for each in it.answers]
+    if it.is_settled == any(line.endswith(" open") for line in lines):
+        lines.append("the property differs")
+    return [*lines, *["limited"] * it.more, *map(unused, it.unused), "end"]
+
+
 # ---- judgements
 
 def owner(it):
@@ -274,12 +311,15 @@ def signature(image):
             f"cdhash {it.cdhash.hex()}")
 
 
+def signature_fault(it):
+    ends = f" {error(it.error)}" if it.error else ""
+    return f"fault {it.kind} slot {it.slot:#x} index {it.number} found {it.found:#x} limit {it.limit:#x}{ends}"
+
+
 def signature_faults(image):
     """Yields the line of each fault, also of one with an error."""
     try:
-        for it in image.signature_faults():
-            ends = f" {error(it.error)}" if it.error else ""
-            yield f"fault {it.kind} slot {it.slot:#x} index {it.number} found {it.found:#x} limit {it.limit:#x}{ends}"
+        yield from map(signature_fault, image.signature_faults())
     except Refused as refused:
         yield why(refused)
 
@@ -331,51 +371,21 @@ def security(image):
     return [f"verdict {name} {words[holds]}" for name, holds in image.security().items()]
 
 
-# ---- names of numbers; None if the package has a name and the library hasn't
-
-def known(number, prefix=""):
-    return prefix + number.name if number.is_known else "none"
-
-
-def flag_name(number):
-    names = HeaderFlags.of(number).names
-    return f"MH_{names[0]}" if len(names) == 1 and not names[0].startswith("0x") else "none"
+def finding(it):
+    """Returns the line of something that an audit found. Of an error it says only that there is one."""
+    parts = [f"{name} {number}" for name, number in (("entry", it.entry), ("member", it.member)) if number is not None]
+    fault = layout_fault(it.layout) if it.layout else signature_fault(it.signature) if it.signature else ""
+    numbers = (number for number in (it.segment, it.section, it.index, it.count) if number is not None)
+    parts += [hyphened(it.kind), *[it.list] * (it.list is not None), *map(str, numbers), *fault.split(" ")[1:], *["error"] * (it.error is not None)]
+    return f"finding {' '.join(parts)}"
 
 
-def platform_name(number):
-    return None if number == 0 else known(Platform.of(number))
-
-
-def symbol_type_name(number):
-    return known(Stab.of(number) if number & 0xE0 else SymbolType.of(number & 0x0E), "N_")
-
-
-def cpu_name(cputype, cpusubtype):
-    name = FatEntry(cputype, cpusubtype, 0, 0, 0, None).arch
-    return "none" if name.startswith("unknown(") else name
-
-
-RELOCATIONS = {"X86_64Relocation": "X86_64_RELOC_", "GenericRelocation": "GENERIC_RELOC_", "ArmRelocation": "ARM_RELOC_", "Arm64Relocation": "ARM64_RELOC_"}
-THUMB = {"THUMB_BR22": "ARM_THUMB_RELOC_BR22", "THUMB_32BIT_BRANCH": "ARM_THUMB_32BIT_BRANCH"}
-
-
-def relocation_name(cputype, number):
-    kind = Relocation(0, number << 28, None).type_for(cputype)
-    prefix = RELOCATIONS.get(type(kind).__name__)
-    if prefix is None:
-        return None if kind.is_known else "none"
-    return THUMB.get(kind.name) or known(kind, prefix)
-
-
-NAMES = {
-    "command-names": lambda number: known(LoadCommand.of(number), "LC_"),
-    "file-type-names": lambda number: known(FileType.of(number)),
-    "header-flag-names": flag_name,
-    "platform-names": platform_name,
-    "symbol-type-names": symbol_type_name,
-    "cpu-names": cpu_name,
-    "relocation-names": relocation_name,
-}
+def audit(vector, data):
+    it = goblin_mach.audit(data, vector.number if vector.numbers else NO_LIMIT)
+    verdict = SOUNDNESS[goblin_mach.VERDICTS.index(it.verdict)]
+    if it.is_sound != (verdict == "sound"):
+        verdict = "another one by the property"
+    return [*map(finding, it.findings), f"verdict {verdict}", "end"]
 
 
 # ---- calls: lists of lines, which get an end, and single lines; None if the package can't be asked
@@ -444,6 +454,9 @@ SINGLES_OF_FILES = {
     "member-named": lambda data, vector: found(Archive(data).member(vector.wanted_name), member),
 }
 
+WITH_FILES = {"write-fat": write_fat, "resolve": resolve, "audit": audit}
+"""Those of a file that get the vector, too."""
+
 
 def ended(lines):
     """Returns a list with its end, unless an error is its last line."""
@@ -464,8 +477,8 @@ def answer(vector):
     if call in LEFT_OUT or call in NAMES:
         return None if call in LEFT_OUT else named(vector)
     try:
-        if call == "write-fat":
-            return write_fat(vector, data)
+        if call in WITH_FILES:
+            return WITH_FILES[call](vector, data)
         if call in LISTS_OF_FILES:
             return ended(LISTS_OF_FILES[call](data))
         if call in SINGLES_OF_FILES:

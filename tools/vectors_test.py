@@ -27,11 +27,12 @@ class Parser(unittest.TestCase):
     """What the format says, and what it doesn't allow."""
 
     def test_a_vector(self):
-        lines = "image i\ncut 0x3\nchange 1 0a0b\nbytes 01*2 0203\nname a\\x5cb\nnumber 1\nnumber 0x10\npart 1 2 3 4 5\nchecked llvm reference\nwant image\n"
+        lines = "image i\ncut 0x3\nchange 1 0a0b\nbytes 01*2 0203\nname a\\x5cb\nnumber 1\nnumber 0x10\npart 1 2 3 4 5\nlibrary a\\x20b i\nchecked llvm reference\nwant image\n"
         one = form.parse_text(f"# A remark.\n{HEAD}{lines}", "f")[0]
         self.assertEqual((one.name, one.line, one.call, one.mode, one.offset, one.address), ("v", 5, "mach", "strict", 0, 0))
         self.assertEqual(one.bytes(), bytes.fromhex("000a0b01010203"))
         self.assertEqual((one.wanted_name, one.number, one.numbers, one.parts), (b"a\\b", 1, [(1,), (16,)], [(1, 2, 3, 4, 5)]))
+        self.assertEqual(one.libraries, [(b"a b", bytes.fromhex("000000ff"))])
         self.assertEqual((one.checked, one.want, one.count), (["llvm", "reference"], ["image"], None))
 
     def test_differences(self):
@@ -60,6 +61,9 @@ class Parser(unittest.TestCase):
             ("mode loose", "6: unknown mode 'loose'"),
             ("offset +1", "6: '+1' is no number"),
             ("part 1 2 3 4", "6: not 5 numbers"),
+            ("library a", "6: unknown image ''"),
+            ("library a b", "6: unknown image 'b'"),
+            ("library \\x i", "6: a backslash without x and two digits"),
             ("number 1 2", "6: not 1 numbers"),
             ("name \\x4", "6: a backslash without x and two digits"),
             ("name \\xff", "6: a name that isn't UTF-8"),

@@ -1,6 +1,8 @@
 /* drive FILE.. answers the vectors of the files by the C library, and compares. README.md says what vectors are. For each vector it prints the first line
    of the answer that differs. Then it prints how many vectors are as expected, and which calls were left out since C has none. The status is 1 if a
    vector differs, and 2 if a file can't be read as vectors. */
+#include "audited.h"
+#include "resolved.h"
 #include "signed.h"
 
 /* ---- answers that are no lists */
@@ -106,23 +108,13 @@ static void answer_exports(asked *a) {
     else answer_walk(a);
 }
 
-/* Returns the bytes of the name that is looked up. It is written as in answers, without the quotes. */
-static buffer name_of(const block *b) {
-    buffer name = {NULL, 0, 0};
-    for (const char *c = needed(b, "name"); *c; c++) {
-        uint8_t byte = (uint8_t)*c;
-        if (byte == '\\') {
-            if (c[1] != 'x') die("%s: a backslash in a name", b->all[0].value);
-            byte = pair(c + 2);
-            c += 3;
-        }
-        append(&name, &byte, 1);
-    }
-    return name;
+static buffer needed_name(const block *b) {
+    const char *name = needed(b, "name");
+    return name_of(b, name, strlen(name));
 }
 
 static void answer_find(asked *a) {
-    buffer name = name_of(a->to.b);
+    buffer name = needed_name(a->to.b);
     gm_export found;
     uint32_t code = gm_find_export(IMAGE_OF, (const char *)name.at, name.len, &found, NULL, 0, NULL, 0, NULL, NULL);
     if (code || found.kind == GM_NO_EXPORT) say_or_error(a, code, "none");
@@ -181,7 +173,7 @@ static void answer_archive_kind(asked *a) {
 typedef uint32_t look_up(const uint8_t *bytes, size_t len, const char *name, size_t name_len, gm_archive_member *member, gm_error *error);
 
 static void say_member(asked *a, look_up *look_up_name) {
-    buffer name = name_of(a->to.b);
+    buffer name = needed_name(a->to.b);
     gm_archive_member member;
     uint32_t code = look_up_name(FILE_OF, (const char *)name.at, name.len, &member, NULL);
     if (code || !member.header) say_or_error(a, code, "none");
@@ -266,7 +258,7 @@ static const struct { const char *call; answer_call *answer; bool is_of_image; }
     {"section-of", answer_section_of, true}, {"signature", answer_signature, true}, {"as-signed", answer_as_signed, true},
     {"requirement", answer_requirement, true}, {"entitlements", answer_entitlements, true}, {"security", answer_security, true},
     {"archive-kind", answer_archive_kind, false}, {"archive-find", answer_archive_find, false}, {"member-named", answer_member_named, false},
-    {"write-fat", answer_write_fat, false},
+    {"write-fat", answer_write_fat, false}, {"resolve", answer_resolve, false}, {"audit", answer_audit, false},
 };
 
 /* the calls that C doesn't have, and how many vectors of each there are */
@@ -324,6 +316,7 @@ static void try_vector(totals *all, const char *path, const block *b, const imag
     asked a;
     memset(&a, 0, sizeof a);
     a.to = answer_to(b, path);
+    a.named = named;
     a.bytes = file.at;
     a.len = file.len;
     all->vectors++;

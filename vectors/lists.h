@@ -12,6 +12,7 @@
 
 typedef struct {
     answer to;
+    const images *named; /* of the file of vectors */
     const uint8_t *bytes; /* the file */
     size_t len;
     gm_image image;
@@ -37,6 +38,12 @@ static const char *error_of(uint32_t code) {
 static void say_error(asked *a, uint32_t code) {
     PUT("error %s", error_of(code));
     end_line(a);
+}
+
+/* Says why a call was refused; if it wasn't, says these words. */
+static void say_or_error(asked *a, uint32_t code, const char *none) {
+    if (code) say_error(a, code);
+    else say(a, none);
 }
 
 /* Puts a name in quotes. */
@@ -360,19 +367,22 @@ static void put_owner(asked *a, uint32_t part, uint64_t command, uint64_t index)
 }
 BY_NUMBER_OR_REFUSED(layout_faults, gm_layout_fault, IMAGE_OF)
 BY_NUMBER_OR_REFUSED(container_faults, gm_layout_fault, FILE_OF)
-LINE(layout_faults, gm_layout_fault,
-     PUT("fault ");
-     put_hyphens(a, gm_layout_rule(r->rule));
-     PUT(" of ");
-     put_owner(a, r->part, r->command, r->index);
-     PUT(" found 0x%" PRIx64 " limit 0x%" PRIx64, r->found, r->limit);
-     if (r->other_part) PUT(" other "), put_owner(a, r->other_part, r->other_command, r->other_index))
+static void put_layout_fault(asked *a, const gm_layout_fault *r) {
+    put_hyphens(a, gm_layout_rule(r->rule));
+    PUT(" of ");
+    put_owner(a, r->part, r->command, r->index);
+    PUT(" found 0x%" PRIx64 " limit 0x%" PRIx64, r->found, r->limit);
+    if (r->other_part) PUT(" other "), put_owner(a, r->other_part, r->other_command, r->other_index);
+}
+LINE(layout_faults, gm_layout_fault, PUT("fault "); put_layout_fault(a, r))
 
 BY_NUMBER_OR_REFUSED(signature_faults, gm_signature_fault, IMAGE_OF)
-LINE(signature_faults, gm_signature_fault,
-     PUT("fault %s slot 0x%" PRIx32 " index %" PRIu32, gm_signature_kind(r->kind), r->slot, r->index);
-     PUT(" found 0x%" PRIx64 " limit 0x%" PRIx64, r->found, r->limit);
-     if (r->code) PUT(" error %s", error_of(r->code)))
+static void put_signature_fault(asked *a, const gm_signature_fault *r) {
+    PUT("%s slot 0x%" PRIx32 " index %" PRIu32, gm_signature_kind(r->kind), r->slot, r->index);
+    PUT(" found 0x%" PRIx64 " limit 0x%" PRIx64, r->found, r->limit);
+    if (r->code) PUT(" error %s", error_of(r->code));
+}
+LINE(signature_faults, gm_signature_fault, PUT("fault "); put_signature_fault(a, r))
 
 static const list lists_of_images[] = {
     LIST("commands", commands, gm_command, NO_CODE),

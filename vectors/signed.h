@@ -3,12 +3,6 @@
 #define SIGNED_H
 #include "lists.h"
 
-/* Says why a call was refused; if it wasn't, says these words. */
-static void say_or_error(asked *a, uint32_t code, const char *none) {
-    if (code) say_error(a, code);
-    else say(a, none);
-}
-
 /* Puts why a text of the signature isn't there: an error, or none. Returns whether it isn't there. */
 static bool is_missing(asked *a, size_t at, uint32_t code) {
     if (code) PUT("(%s)", error_of(code));

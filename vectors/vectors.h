@@ -137,14 +137,35 @@ static void change(buffer *of, const char *value) {
     free(bytes.at);
 }
 
+/* Returns the bytes of a name of so many characters. It is written as in answers, without the quotes. */
+static buffer name_of(const block *b, const char *text, size_t len) {
+    buffer name = {NULL, 0, 0};
+    for (const char *c = text; c < text + len; c++) {
+        uint8_t byte = (uint8_t)*c;
+        if (byte == '\\') {
+            if (c[1] != 'x') die("%s: a backslash in a name", b->all[0].value);
+            byte = pair(c + 2);
+            c += 3;
+        }
+        append(&name, &byte, 1);
+    }
+    return name;
+}
+
+/* Returns the bytes of an image by its name. */
+static const buffer *image_named(const block *b, const images *named, const char *name) {
+    size_t k = 0;
+    while (k < named->count && strcmp(named->all[k].name, name)) k++;
+    if (k == named->count) die("vector %s: no image %s", b->all[0].value, name);
+    return &named->all[k].bytes;
+}
+
 /* Returns the file of a block, in a block of memory with no byte more. */
 static buffer file_of(const block *b, const images *named) {
     buffer file = {NULL, 0, 0};
     const char *image = strcmp(b->all[0].key, "vector") ? NULL : value_of(b, "image");
-    size_t k = 0;
-    while (image && k < named->count && strcmp(named->all[k].name, image)) k++;
-    if (image && k == named->count) die("vector %s: no image %s", b->all[0].value, image);
-    if (image) append(&file, named->all[k].bytes.at, named->all[k].bytes.len);
+    const buffer *begins = image ? image_named(b, named, image) : NULL;
+    if (begins) append(&file, begins->at, begins->len);
     uint64_t kept = number_of(b, "cut", file.len);
     if (kept > file.len) die("%s: a cut past the end", b->all[0].value);
     file.len = (size_t)kept;
@@ -255,11 +276,19 @@ static size_t error_words(const char *text, const char **called) {
     return 0;
 }
 
-/* Puts a wanted line, with C's names for errors: after the word error, and in brackets instead of a name. */
+/* Returns how long names in brackets are, with the blank before them, or 0 if a text doesn't begin with them. C doesn't give these names. */
+static size_t names_in_brackets(const char *text) {
+    const char *end = strncmp(text, " (\"", 3) ? NULL : strstr(text + 3, "\")");
+    return end ? (size_t)(end + 2 - text) : 0;
+}
+
+/* Puts a wanted line, without names in brackets, and with C's names for errors: after the word error, and in brackets instead of a name. */
 static void put_wanted(buffer *to, const char *line) {
     bool in_quotes = false;
     const char *called;
     for (const char *c = line; *c; c++) {
+        c += in_quotes ? 0 : names_in_brackets(c);
+        if (!*c) return;
         bool is_before = !in_quotes && (*c == '(' || (*c == ' ' && c - line >= 5 && !strncmp(c - 5, "error", 5)));
         size_t skipped = is_before ? error_words(c + 1, &called) : 0;
         in_quotes ^= *c == '"';

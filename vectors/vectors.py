@@ -5,13 +5,13 @@ import re
 
 # The keys that a vector may have once, and those that it may have several times.
 ONCE = set("vector shows source image cut call mode offset name address count checked choice".split())
-OFTEN = set("row bytes change number part want first last".split())
+OFTEN = set("row bytes change library number part want first last".split())
 # The calls, each with the key that it needs.
 CALLS = {
     **dict.fromkeys("header commands segments sections relocations symbols libraries run-paths ids function-starts data-in-code".split()),
     **dict.fromkeys("indirect-symbols linker-options build-tools notes slots providers exports walk imports iter-imports bindings".split()),
     **dict.fromkeys("weak-binds rebases fixups mach input entries images archive-kind members archive-symbols layout container".split()),
-    **dict.fromkeys("signature signature-faults as-signed entitlements security".split()),
+    **dict.fromkeys("signature signature-faults as-signed entitlements security resolve audit".split()),
     **dict.fromkeys("find archive-find member-named".split(), "name"),
     **dict.fromkeys("slot-at section-at".split(), "address"),
     **dict.fromkeys("section-of write-fat command-names file-type-names header-flag-names platform-names".split(), "number"),
@@ -59,10 +59,11 @@ class Line:
             parts.append(bytes.fromhex(read[1]) * (self.integer(read[2]) if read[2] else 1))
         return b"".join(parts)
 
-    def unescaped(self):
-        """Returns the bytes of a name, in which a backslash, x and two digits are a byte."""
-        name = re.sub(r"\\x([0-9a-fA-F]{2})", lambda found: chr(int(found[1], 16)), self.value).encode("latin-1")
-        if re.search(r"\\(?!x[0-9a-fA-F]{2})", self.value):
+    def unescaped(self, words=None):
+        """Returns the bytes of a name, in which a backslash, x and two digits are a byte; without a name, those of the value."""
+        words = self.value if words is None else words
+        name = re.sub(r"\\x([0-9a-fA-F]{2})", lambda found: chr(int(found[1], 16)), words).encode("latin-1")
+        if re.search(r"\\(?!x[0-9a-fA-F]{2})", words):
             raise self.fault("a backslash without x and two digits")
         if name.decode(errors="replace").encode() != name:
             raise self.fault("a name that isn't UTF-8")
@@ -109,6 +110,14 @@ class Vector:
         self.number = self.numbers[0][0] if self.numbers else 0
         self.parts = [line.integers(5) for line in self.all("part")]
         self.wanted_name = b"".join(line.unescaped() for line in self.all("name"))
+        self.libraries = [self._library(line) for line in self.all("library")]
+
+    def _library(self, line):
+        """Returns the path and the bytes of a library that is given with the file."""
+        path, _, image = line.value.partition(" ")
+        if image not in self.images:
+            raise line.fault(f"unknown image '{image}'")
+        return line.unescaped(path), self.images[image]
 
     def _read_answer(self):
         self.checked = " ".join(self.fields.get("checked", [])).split()

@@ -162,6 +162,28 @@ uint32_t gm_open(const uint8_t *bytes, uint64_t len, uint64_t offset, uint32_t m
 typedef struct gm_command { uint64_t offset, size; uint32_t cmd, reserved; } gm_command;
 uint64_t gm_commands(const uint8_t *bytes, uint64_t len, const gm_image *image, uint64_t first, gm_command *out, uint64_t cap);
 
+/* ---- the fields of a command's record after cmd and cmdsize, under their names in mach-o/loader.h */
+
+/* How a field is read. NUMBER and HEXADECIMAL: a number, shown in decimal or in hexadecimal. VERSION: 16, 8 and 8 bits. SOURCE_VERSION: 24, 10, 10, 10
+   and 10 bits. PLATFORM: GM_PLATFORM_MACOS and the like. PROTECTION: the bits GM_VM_PROT_READ and the like. NAME: at most 16 bytes, up to a zero byte.
+   TEXT: the offset in the command of a text, which ends before a zero byte or with the command. UUID: 16 bytes. */
+enum { GM_FIELD_NUMBER, GM_FIELD_HEXADECIMAL, GM_FIELD_VERSION, GM_FIELD_SOURCE_VERSION, GM_FIELD_PLATFORM, GM_FIELD_PROTECTION, GM_FIELD_NAME,
+       GM_FIELD_TEXT, GM_FIELD_UUID };
+enum { GM_COMMAND_FIELDS = 18 }; /* no command has more */
+
+typedef struct gm_command_field {
+    char name[24];                 /* such as "dataoff": it always ends with a zero byte */
+    uint64_t number;               /* of a text its offset in the command, of a name and a UUID 0 */
+    uint64_t place, len;           /* the name, the text or the UUID is `len` bytes at bytes + place; 0 if has_bytes is 0 */
+    uint32_t kind, width;          /* kind: GM_FIELD_NUMBER and the like; width: how many bytes the field has in the record */
+    uint32_t has_bytes, reserved;  /* has_bytes: 0 or 1; that of a text is 0 if it begins outside of its command */
+} gm_command_field;
+
+/* Writes the fields of a command from index `first` on, as many as there are and fit, and returns how many. The command is a row of gm_commands. They
+   end before the first field that isn't all in the command's bytes. GM_LC_IDENT, GM_LC_PREPAGE and commands of other numbers have none. */
+uint64_t gm_command_fields(const uint8_t *bytes, uint64_t len, const gm_image *image, const gm_command *command, uint64_t first, gm_command_field *out,
+                           uint64_t cap);
+
 /* ---- its segments: the command is at `command`, and the data are `data_len` bytes at `fileoff`, or none */
 typedef struct gm_segment {
     uint8_t name[16]; /* padded with zeros if it has fewer than 16 bytes */
@@ -702,6 +724,26 @@ enum { GM_ENTITLEMENTS_NONE, GM_ENTITLEMENTS_AGREE, GM_ENTITLEMENTS_DIFFER, GM_E
    refused if the signature can't be read. A refused call leaves *agreement unchanged. It takes up to 1 MB of stack. */
 uint32_t gm_entitlements_agree(const uint8_t *bytes, uint64_t len, const gm_image *image, uint32_t *agreement, const gm_memory *memory, gm_error *error);
 
+/* ---- the values of its entitlements: the outer dictionary, and after each group its values, in the order of the bytes. A key and a text are so many
+   bytes of the texts from their place on, in UTF-8 if Apple's tools wrote them, without a zero byte at the end. */
+typedef struct gm_entitlement_item {
+    uint64_t key, key_len;   /* no bytes in an array, and for the outer dictionary */
+    uint64_t text, text_len; /* no bytes if it is no text */
+    uint64_t number;         /* a boolean: 0 or 1; a natural number; a negative integer: as an int64_t; a date: its digits, as 20240229235959; else 0 */
+    uint32_t kind, depth;    /* kind: GM_ENTITLEMENT_BOOLEAN and the like; depth: how many groups it is in */
+} gm_entitlement_item;
+
+/* The kinds. The number that a real has is not read. */
+enum { GM_ENTITLEMENT_BOOLEAN = 1, GM_ENTITLEMENT_NATURAL, GM_ENTITLEMENT_NEGATIVE, GM_ENTITLEMENT_DATE, GM_ENTITLEMENT_TEXT, GM_ENTITLEMENT_REAL,
+       GM_ENTITLEMENT_ARRAY, GM_ENTITLEMENT_DICTIONARY };
+
+/* Writes the values of the entitlements in XML, or in DER if is_der isn't 0, and their texts, as many rows as fit into `cap` and as many bytes as fit
+   into `texts_cap`. *count is how many rows there are, and *texts_len how many bytes. Both are 0 if there are no such entitlements, or no signature. It
+   opens the image again, and allocates memory for that, for the rows and for the texts while it runs. It is refused if the signature or the
+   entitlements can't be read. A refused call leaves all of these unchanged. It takes up to 1 MB of stack. */
+uint32_t gm_entitlement_items(const uint8_t *bytes, uint64_t len, const gm_image *image, uint32_t is_der, gm_entitlement_item *out, uint64_t cap,
+                              uint64_t *count, char *texts, uint64_t texts_cap, uint64_t *texts_len, const gm_memory *memory, gm_error *error);
+
 /* ---- the requirements of its signature: conditions on the code that hosts this one, on what this one hosts, on this code, on its libraries and on its
    plug-ins. The designated one says what is another version of the same code. */
 enum { GM_REQUIREMENT_HOST = 1, GM_REQUIREMENT_GUEST, GM_REQUIREMENT_DESIGNATED, GM_REQUIREMENT_LIBRARY, GM_REQUIREMENT_PLUGIN };
@@ -726,6 +768,50 @@ typedef struct gm_verdict {
    with GM_NO_ROWS. A refused call leaves the array and *count unchanged. It takes up to 1 MB of stack. */
 uint32_t gm_security(const uint8_t *bytes, uint64_t len, const gm_image *image, uint64_t first, gm_verdict *out, uint64_t cap, uint64_t *count,
                      const gm_memory *memory, gm_error *error);
+
+/* ---- the audit of a file: what machaudit finds, and whether the file is sound. What is found is of a kind. REFUSED: an image opens in no mode. LOSSY: it
+   opens in lossy mode only. TABLE: the table of a fat file can't be read. NO_ENTRIES: it has no entries. ARCHIVE: the members of an archive end
+   at an error, or it doesn't open. ITEM: item number `index` of `list` can't be read. MORE: `count` more faults of `list` were counted and have no
+   row. PAST: `count` records of `list` are past the end of the bytes. CUT: `list` has more items than were visited. UNREADABLE: the signature
+   can't be read. SIGNATURE: something differs from what was signed. LAYOUT: a fault of the layout of an image, or of the table of a fat file. */
+#define GM_FINDING_KINDS(X) \
+    X(REFUSED, "refused") X(LOSSY, "lossy") X(TABLE, "table") X(NO_ENTRIES, "no entries") X(ARCHIVE, "archive") X(ITEM, "item") X(MORE, "more") \
+    X(PAST, "past the end") X(CUT, "limit met") X(UNREADABLE, "unreadable") X(SIGNATURE, "signature") X(LAYOUT, "layout")
+#define GM_FINDING_LISTS(X) \
+    X(SECTIONS, "sections") X(RELOCATIONS, "relocations") X(SYMBOLS, "symbols") X(EXPORTS, "exports") X(IMPORTS, "imports") X(FIXUPS, "fixups") \
+    X(BINDINGS, "bindings") X(SIGNATURE, "signature") X(MEMBERS, "members") X(ENTRIES, "entries")
+#define GM_FINDING_KIND(name, words) GM_FINDING_##name,
+#define GM_FINDING_LIST(name, words) GM_LIST_##name,
+enum { GM_FINDING_NONE, GM_FINDING_KINDS(GM_FINDING_KIND) };
+enum { GM_LIST_NONE, GM_FINDING_LISTS(GM_FINDING_LIST) };
+#undef GM_FINDING_KIND
+#undef GM_FINDING_LIST
+
+/* Return the plain name of a kind, and of a list, or "none" for any other number. */
+const char *gm_finding_kind(uint32_t kind);
+const char *gm_finding_list(uint32_t list);
+
+/* the verdicts. SOUND: nothing was found. UNENDED: nothing but lists with more items than were visited. FAULTY: the file has faults. */
+enum { GM_SOUND, GM_UNENDED, GM_FAULTY };
+
+/* what was found. A field that its kind doesn't have is 0. */
+typedef struct gm_finding {
+    uint64_t entry, member;           /* the numbers of an entry of a fat file and of a member of its archive, or GM_NO_NUMBER */
+    uint64_t segment, section, index; /* of an item: of a section its segment, of a relocation its section too, and its own number, from 0 */
+    uint64_t count;
+    uint32_t kind, list;              /* GM_FINDING_.., GM_LIST_.. */
+    gm_layout_fault layout;
+    gm_signature_fault signature;
+    gm_error error;                   /* why something can't be read; its code is GM_OK for other kinds */
+} gm_finding;
+
+/* Writes the first things that were found, as many as fit, how many there are to *count, and the verdict to *verdict. They are in this order: of a
+   fat file its table and then each entry, of an archive each member, of an image its lists, its signature and its layout. Of a list of an image and
+   of a signature the first ten faults have a row. Of each list it visits at most `limit` items, and of a list of an image no more than the
+   image has bytes. `cap` may be 0. It allocates memory while it runs, and is only refused with GM_NO_MEMORY. A refused call leaves the
+   array, *count and *verdict unchanged. */
+uint32_t gm_audit(const uint8_t *bytes, uint64_t len, uint64_t limit, gm_finding *out, uint64_t cap, uint64_t *count, uint32_t *verdict,
+                  const gm_memory *memory, gm_error *error);
 
 /* ---- a program and its libraries, resolved: which of these files has each bound name, and at which address. All files are parts of one buffer: one
    is `len` bytes from `offset` on. Its path is `path_len` bytes at bytes + path, and UTF-8. It is the file's name if the file has none of its own. */
@@ -1318,6 +1404,15 @@ GM_FIELD(gm_command, size, 8, 8);
 GM_FIELD(gm_command, cmd, 16, 4);
 GM_FIELD(gm_command, reserved, 20, 4);
 GM_SIZE(gm_command, 24);
+GM_FIELD(gm_command_field, name, 0, 24);
+GM_FIELD(gm_command_field, number, 24, 8);
+GM_FIELD(gm_command_field, place, 32, 8);
+GM_FIELD(gm_command_field, len, 40, 8);
+GM_FIELD(gm_command_field, kind, 48, 4);
+GM_FIELD(gm_command_field, width, 52, 4);
+GM_FIELD(gm_command_field, has_bytes, 56, 4);
+GM_FIELD(gm_command_field, reserved, 60, 4);
+GM_SIZE(gm_command_field, 64);
 GM_FIELD(gm_command_text, command, 0, 8);
 GM_FIELD(gm_command_text, text, 8, 8);
 GM_FIELD(gm_command_text, text_len, 16, 8);
@@ -1333,6 +1428,14 @@ GM_FIELD(gm_encrypted_part, offset, 0, 4);
 GM_FIELD(gm_encrypted_part, size, 4, 4);
 GM_FIELD(gm_encrypted_part, id, 8, 4);
 GM_SIZE(gm_encrypted_part, 12);
+GM_FIELD(gm_entitlement_item, key, 0, 8);
+GM_FIELD(gm_entitlement_item, key_len, 8, 8);
+GM_FIELD(gm_entitlement_item, text, 16, 8);
+GM_FIELD(gm_entitlement_item, text_len, 24, 8);
+GM_FIELD(gm_entitlement_item, number, 32, 8);
+GM_FIELD(gm_entitlement_item, kind, 40, 4);
+GM_FIELD(gm_entitlement_item, depth, 44, 4);
+GM_SIZE(gm_entitlement_item, 48);
 GM_FIELD(gm_error, code, 0, 4);
 GM_FIELD(gm_error, text, 4, 124);
 GM_SIZE(gm_error, 128);
@@ -1388,6 +1491,18 @@ GM_FIELD(gm_fileset_entry, name_len, 24, 8);
 GM_FIELD(gm_fileset_entry, code, 32, 4);
 GM_FIELD(gm_fileset_entry, reserved, 36, 4);
 GM_SIZE(gm_fileset_entry, 40);
+GM_FIELD(gm_finding, entry, 0, 8);
+GM_FIELD(gm_finding, member, 8, 8);
+GM_FIELD(gm_finding, segment, 16, 8);
+GM_FIELD(gm_finding, section, 24, 8);
+GM_FIELD(gm_finding, index, 32, 8);
+GM_FIELD(gm_finding, count, 40, 8);
+GM_FIELD(gm_finding, kind, 48, 4);
+GM_FIELD(gm_finding, list, 52, 4);
+GM_FIELD(gm_finding, layout, 56, 64);
+GM_FIELD(gm_finding, signature, 120, 32);
+GM_FIELD(gm_finding, error, 152, 128);
+GM_SIZE(gm_finding, 280);
 GM_FIELD(gm_fixup, address, 0, 8);
 GM_FIELD(gm_fixup, offset, 8, 8);
 GM_FIELD(gm_fixup, target, 16, 8);
@@ -1670,11 +1785,44 @@ GM_IS(GM_ARCHIVE_NONE, 0);
 GM_IS(GM_ARCHIVE_GNU, 1);
 GM_IS(GM_ARCHIVE_BSD, 2);
 GM_IS(GM_ARCHIVE_THIN, 3);
+GM_IS(GM_FINDING_REFUSED, 1);
+GM_IS(GM_FINDING_LOSSY, 2);
+GM_IS(GM_FINDING_TABLE, 3);
+GM_IS(GM_FINDING_NO_ENTRIES, 4);
+GM_IS(GM_FINDING_ARCHIVE, 5);
+GM_IS(GM_FINDING_MORE, 7);
+GM_IS(GM_FINDING_PAST, 8);
+GM_IS(GM_FINDING_CUT, 9);
+GM_IS(GM_FINDING_UNREADABLE, 10);
+GM_IS(GM_FINDING_SIGNATURE, 11);
+GM_IS(GM_FINDING_LAYOUT, 12);
+GM_IS(GM_FINDING_ITEM, 6);
+GM_IS(GM_LIST_SECTIONS, 1);
+GM_IS(GM_LIST_RELOCATIONS, 2);
+GM_IS(GM_LIST_SYMBOLS, 3);
+GM_IS(GM_LIST_EXPORTS, 4);
+GM_IS(GM_LIST_IMPORTS, 5);
+GM_IS(GM_LIST_FIXUPS, 6);
+GM_IS(GM_LIST_BINDINGS, 7);
+GM_IS(GM_LIST_SIGNATURE, 8);
+GM_IS(GM_LIST_MEMBERS, 9);
+GM_IS(GM_LIST_ENTRIES, 10);
+GM_IS(GM_SOUND, 0);
+GM_IS(GM_UNENDED, 1);
+GM_IS(GM_FAULTY, 2);
 GM_IS(GM_OF_LIBRARY, 0);
 GM_IS(GM_OF_ITSELF, 1);
 GM_IS(GM_OF_PROGRAM, 2);
 GM_IS(GM_OF_ANY, 3);
 GM_IS(GM_OF_ANY_WEAK, 4);
+GM_IS(GM_ENTITLEMENT_BOOLEAN, 1);
+GM_IS(GM_ENTITLEMENT_NATURAL, 2);
+GM_IS(GM_ENTITLEMENT_NEGATIVE, 3);
+GM_IS(GM_ENTITLEMENT_DATE, 4);
+GM_IS(GM_ENTITLEMENT_TEXT, 5);
+GM_IS(GM_ENTITLEMENT_REAL, 6);
+GM_IS(GM_ENTITLEMENT_ARRAY, 7);
+GM_IS(GM_ENTITLEMENT_DICTIONARY, 8);
 GM_IS(GM_ENTITLEMENTS_NONE, 0);
 GM_IS(GM_ENTITLEMENTS_AGREE, 1);
 GM_IS(GM_ENTITLEMENTS_DIFFER, 2);
@@ -1697,6 +1845,15 @@ GM_IS(GM_NO_ROOM, 2);
 GM_IS(GM_NAME_SHORT, 3);
 GM_IS(GM_STACK_SHORT, 4);
 GM_IS(GM_REFUSED, 5);
+GM_IS(GM_FIELD_NUMBER, 0);
+GM_IS(GM_FIELD_HEXADECIMAL, 1);
+GM_IS(GM_FIELD_VERSION, 2);
+GM_IS(GM_FIELD_SOURCE_VERSION, 3);
+GM_IS(GM_FIELD_PLATFORM, 4);
+GM_IS(GM_FIELD_PROTECTION, 5);
+GM_IS(GM_FIELD_NAME, 6);
+GM_IS(GM_FIELD_TEXT, 7);
+GM_IS(GM_FIELD_UUID, 8);
 GM_IS(GM_NO_EXPORT, 0);
 GM_IS(GM_ADDRESS, 1);
 GM_IS(GM_REEXPORTED, 2);

@@ -213,6 +213,13 @@ public:
     auto fileset_entries() const { return list<gm_fileset_entry>(gm_fileset_entries); }
     auto notes() const { return list<gm_note>(gm_notes); }
 
+    // Returns the fields of a command. The bytes of one that has some are text(field.place, field.len).
+    std::vector<gm_command_field> fields(const gm_command &command) const {
+        std::vector<gm_command_field> found(GM_COMMAND_FIELDS);
+        found.resize(static_cast<std::size_t>(gm_command_fields(data, len, &numbers, &command, 0, found.data(), found.size())));
+        return found;
+    }
+
     // ---- lists that open the image again: by a cursor, and by index
     auto function_starts() const { return after<gm_function_start, gm_start_cursor>(gm_function_starts); }
     auto fixups() const { return after<gm_fixup, gm_fixup_cursor>(gm_fixups); }

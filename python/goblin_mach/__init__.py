@@ -28,6 +28,7 @@ from .enums import (
 from .errors import ERRORS, Refused
 from .fat import FatPart, write_fat
 from .file import File, container_faults, fat_entries, kind_of, open, parse
+from .findings import VERDICTS, Audit, Finding, audit
 from .image import Image
 from .items import (
     ArchiveSymbol, BuildTool, BuildVersion, Command, CommandText, DataInCode, Encryption, Export, FatEntry, FilesetEntry, FoundSymbol, Function,
@@ -56,6 +57,7 @@ __all__ = [
     "FunctionStart", "DataInCode", "IndirectSymbol", "SymbolSlot", "SymbolProvider", "NumberedSection", "LinkerOption", "BuildTool", "Note",
     "Item", "BuildVersion", "CommandText", "Encryption", "FilesetEntry", "FoundSymbol", "Function", "SymbolMap",
     "Mode", "STRICT", "LOSSY", "ErrorCode", "ERRORS", "NO_MEMORY", "BATCH", "FIXUPS", "PROVIDERS", "REBASES", "KINDS", "INDIRECT", "SLOTS", "EXPORTS",
+    "audit", "Audit", "Finding", "VERDICTS",
     "AGREEMENTS", "resolve", "Resolution", "Answer", "UnusedFile", "FileRefused", "PLACES",
     "REQUIREMENTS",
     "CpuType", "CpuSubtype", "CPU_SUBTYPES", "X86Subtype", "X86_64Subtype", "ArmSubtype", "Arm64Subtype", "Arm64_32Subtype", "PowerPcSubtype",

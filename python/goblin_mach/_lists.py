@@ -7,9 +7,8 @@ from functools import lru_cache
 from typing import Any, Callable, Iterable, List, Optional, Tuple
 
 from . import _structs as s
-from ._commands import name_in
 from ._library import lib
-from ._memory import Held
+from ._memory import Held, name_in
 from ._rows import Kind
 from .errors import ERRORS
 from .items import (

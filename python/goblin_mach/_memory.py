@@ -65,6 +65,11 @@ def text(raw: ReadableBuffer) -> str:
     return str(raw, "utf-8", "surrogateescape")
 
 
+def name_in(raw: bytes) -> str:
+    """Returns the text before the first zero byte. Bytes that aren't UTF-8 become surrogates."""
+    return text(raw.split(b"\0", 1)[0])
+
+
 def bytes_of(name: Union[str, bytes]) -> bytes:
     """Returns a name as its bytes in a file."""
     return name.encode("utf-8", "surrogateescape") if isinstance(name, str) else name

@@ -74,6 +74,10 @@ class gm_command(ctypes.Structure):
     _fields_ = _u64("offset size") + _u32("cmd reserved")
 
 
+class gm_command_field(ctypes.Structure):
+    _fields_ = [("name", c_char * 24)] + _u64("number place len") + _u32("kind width has_bytes reserved")
+
+
 class gm_segment(ctypes.Structure):
     _fields_ = [("name", c_uint8 * 16)] + _u64("vmaddr vmsize fileoff filesize command data_len") + _u32("maxprot initprot sections flags")
 
@@ -278,6 +282,17 @@ class gm_signature(ctypes.Structure):
 
 class gm_signature_fault(ctypes.Structure):
     _fields_ = _u64("found limit") + _u32("kind slot index code")
+
+
+class gm_entitlement_item(ctypes.Structure):
+    _fields_ = _u64("key key_len text text_len number") + _u32("kind depth")
+
+
+class gm_finding(ctypes.Structure):
+    _fields_ = (
+        _u64("entry member segment section index count") + _u32("kind list")
+        + [("layout", gm_layout_fault), ("signature", gm_signature_fault), ("error", gm_error)]
+    )
 
 
 class gm_verdict(ctypes.Structure):

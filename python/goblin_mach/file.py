@@ -17,6 +17,7 @@ from ._rows import Rows, in_growing_batches
 from .archive import Archive
 from .enums import ErrorCode, Mode
 from .errors import Refused
+from .findings import LIMIT, Audit, audit
 from .image import Image
 from .items import FatEntry, LayoutFault, Member
 
@@ -236,6 +237,10 @@ class File(Sequence[Image]):
     def container_faults(self) -> Iterator[LayoutFault]:
         """Returns the faults of its table, if it is a fat file."""
         return container_faults(self._whole())
+
+    def audit(self, limit: int = LIMIT) -> Audit:
+        """Audits it: says whether it is sound, and what was found (`audit`)."""
+        return audit(self._whole(), limit)
 
     def close(self) -> None:
         """Closes it. The bytes stay mapped as long as an object still uses them."""

@@ -16,6 +16,7 @@ from ._arch import arch_name
 from ._library import bits64, lib, refused
 from ._memory import Held, bytes_of
 from ._rows import Kind, Rows, in_growing_batches, rows_behind
+from .entitlements import entitlements_of
 from .enums import CpuSubtype, CpuType, ErrorCode, FileType, HeaderFlags, LoadCommand, Mode, Platform, cpu_subtype
 from .errors import ERRORS, Refused, again
 from .items import (
@@ -453,7 +454,8 @@ class Image:
         if said is None:
             return None
         return Signature(held, said, lambda: _signature.as_signed(self._live(), self._pointer), self.signature_faults,
-                         lambda: _signature.agreement_of(self._live(), self._pointer), lambda: _signature.requirements_of(self._live(), self._pointer))
+                         lambda: _signature.agreement_of(self._live(), self._pointer), lambda: _signature.requirements_of(self._live(), self._pointer),
+                         lambda is_der: entitlements_of(self._live(), self._pointer, is_der))
 
     def signature_faults(self) -> Iterator[SignatureFault]:
         """Returns the faults of its signature, also if no code directory counts. Without a signature there are none."""

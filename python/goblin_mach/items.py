@@ -6,7 +6,7 @@ from __future__ import annotations
 from typing import Any, Dict, NamedTuple, Optional
 
 from ._arch import arch_name
-from ._commands import fields_of
+from ._fields import fields_of
 from ._item import Item, plain
 from .enums import (
     CpuSubtype, CpuType, DataKind, LoadCommand, Platform, Protection, SectionAttributes, SectionType, SegmentFlags, Tool, cpu_subtype,

@@ -72,8 +72,8 @@ class SignatureFault(Item, NamedTuple("SignatureFault", [
 class Signature:
     """The code directory that counts in a signature: the one that the system takes. None of this says that the image matches it.
     `is_as_signed()` says that, and `faults()` lists what isn't. Who signed is not checked: no CMS is verified. Its values are copied,
-    and stay when the file is closed; `is_as_signed()`, `faults()`, `requirements`, `entitlements_agreement` and
-    `entitlements_agree` call the library.
+    and stay when the file is closed; `is_as_signed()`, `faults()`, `requirements`, `entitlements_in_xml`, `entitlements_in_der`,
+    `entitlements_agreement` and `entitlements_agree` call the library.
 
     `identifier`, `team`: texts; one that can't be read is None, and `errors` says why, by the name of the text.
     `flags`, `hash_type`, `version`: numbers, as in the file.
@@ -82,7 +82,7 @@ class Signature:
     `page_size`: how many bytes a page has; None if there is one page of any size.
     `entitlements`: the bytes as in the signature: a property list in XML, if Apple's tools wrote it."""
 
-    __slots__ = ("_agreement", "_ask", "_faults", "_requirements", "cdhash", "entitlements", "errors", "flags", "hash_type", "identifier", "limit",
+    __slots__ = ("_agreement", "_ask", "_faults", "_requirements", "_values", "cdhash", "entitlements", "errors", "flags", "hash_type", "identifier", "limit",
                  "page_size", "pages", "team", "version")
 
     identifier: Optional[str]
@@ -98,8 +98,9 @@ class Signature:
     errors: Dict[str, str]
 
     def __init__(self, held: Held, said: s.gm_signature, ask: Callable[[], bool], faults: Callable[[], Iterator[SignatureFault]],
-                 agreement: Callable[[], str], requirements: Callable[[], Dict[str, str]]) -> None:
-        self._ask, self._faults, self._agreement, self._requirements = ask, faults, agreement, requirements
+                 agreement: Callable[[], str], requirements: Callable[[], Dict[str, str]],
+                 values: Callable[[bool], Optional[Dict[str, Any]]]) -> None:
+        self._ask, self._faults, self._agreement, self._requirements, self._values = ask, faults, agreement, requirements, values
         codes = {"identifier": said.identifier_code, "team": said.team_code, "entitlements": said.entitlements_code}
         self.errors = {name: ERRORS[code] for name, code in codes.items() if code}
         self.identifier = held.text(said.identifier, said.identifier_len) if said.identifier else None
@@ -143,6 +144,17 @@ class Signature:
             return None
         found: Dict[str, Any] = plistlib.loads(self.entitlements)
         return found
+
+    @property
+    def entitlements_in_xml(self) -> Optional[Dict[str, Any]]:
+        """The entitlements in XML, or None if there are none. Values are bool, int, str, list and dict. A date is its text, and a real, whose
+        number isn't read, is None. Of several values under a key it has the first. Entitlements that can't be read raise `Refused`."""
+        return self._values(False)
+
+    @property
+    def entitlements_in_der(self) -> Optional[Dict[str, Any]]:
+        """The same of the entitlements in DER, by which the system goes."""
+        return self._values(True)
 
     @property
     def requirements(self) -> Dict[str, str]:

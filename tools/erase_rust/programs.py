@@ -19,8 +19,8 @@ PRELUDE = {
 
 MACROS = {"format", "format_args", "writeln"}
 METHODS = set("""
-    alloc arg chars create_new dev eprint eprintln flatten ino into_bytes invalid is_file is_terminal mode monotonic open
-    read_to_end rsplit_once set_permissions stderr stdin stdout sync_all to_ascii_uppercase utf8_chunks valid var wrapping_shl zip
+    alloc arg chars create_new dev ends_with eprint eprintln flatten ino into_bytes invalid is_file is_terminal lines mode monotonic open
+    read_to_end rsplit_once set_permissions split_whitespace stderr stdin stdout sync_all to_ascii_uppercase utf8_chunks valid var wrapping_shl zip
 """.split())
 FUNCTIONS = {"BITS", "from_mode", "from_str_radix"}
 

@@ -154,7 +154,8 @@ class Traits:
         at = words.index(":")
         name, kind = words[at - 1], words[at + 1:]
         kind = self.aliases[kind[0]][1:-1] if kind[0] in self.aliases else kind
-        return name, "Hex" if kind[0] in NUMBERS else "Text" if name in TEXTS else "HexBytes" if kind[:2] == ["[", "u8"] else "Plain"
+        is_text = name in TEXTS or name == "name" and kind[:2] == ["[", "u8"]
+        return name, "Hex" if kind[0] in NUMBERS else "Text" if is_text else "HexBytes" if kind[:2] == ["[", "u8"] else "Plain"
 
     def _wrap(self, stream, body, one):
         """Gives the fields that a written `Debug` prints their forms."""

@@ -1,9 +1,10 @@
 """A second reader of Mach-O files, which confirms the answers of the vectors.
 
-It follows the pages docs/FORMAT-*.md alone, and for `security` docs/PROGRAMS.md. It shares no code with the library. `answer(vector)` is the answer to a vector.
+It follows the pages docs/FORMAT-*.md alone, for `security` docs/PROGRAMS.md, and for `resolve` and `audit` the definitions of
+crates/mach_resolve/specs and crates/mach_audit/specs. It shares no code with the library. `answer(vector)` is the answer to a vector.
 """
 
-from . import chains, entitlements, files, hardened, image, layout, names, opcodes, requirements, signature, tables, trie
+from . import audited, chains, entitlements, files, hardened, image, layout, names, opcodes, requirements, resolved, signature, tables, trie
 from .reading import MOST_WORK, Fault, GaveUp, Work, limited
 
 # Calls that get an opened image and the vector. Those of LISTS give the lines of a list, and those of SINGLES give a line.
@@ -11,7 +12,7 @@ LISTS = {**image.LISTS, **tables.LISTS, **trie.LISTS, **opcodes.LISTS, **chains.
          **entitlements.LISTS, **hardened.LISTS}
 SINGLES = {**tables.SINGLES, **trie.SINGLES, **signature.SINGLES}
 # The same for calls that get the bytes of a file and the vector.
-FILE_LISTS = {**files.LISTS, **names.LISTS}
+FILE_LISTS = {**files.LISTS, **names.LISTS, **resolved.LISTS, **audited.LISTS}
 FILE_SINGLES = {**files.SINGLES}
 
 

@@ -2,9 +2,9 @@
 
 from collections import namedtuple
 
-from .opcodes import opcode_bindings, opcode_rebases
-from .providers import provider_of
-from .reading import WORD, Layout, bad_offset, bits, number, quoted, read, require, signed, text, words
+from .opcodes import Binding, binding_line, opcode_bindings, opcode_rebases
+from .providers import is_provider
+from .reading import WORD, Layout, bad_offset, bits, number, read, require, signed, text, words
 
 HEADER = Layout("Header", "fixups_version starts_offset imports_offset symbols_offset imports_count imports_format symbols_format")
 STARTS = Layout("Starts", "size page_size:2 pointer_format:2 segment_offset:8 max_valid_pointer page_count:2")
@@ -108,11 +108,10 @@ class Chains:
 
     def binding(self, fixup):
         name, ordinal, addend, weak = self.import_of(fixup.pointer.value)
-        provider = provider_of(ordinal, self.image.libs)
+        require(is_provider(ordinal, self.image.libs))
         offset, addend = fixup.segment.fileoff + fixup.offset, addend + fixup.pointer.addend
         require(offset < WORD and -WORD // 2 <= addend < WORD // 2)
-        return words(f"binding {quoted(name)} of {provider} at {fixup.segment.vmaddr + fixup.offset:#x} {offset:#x} "
-                     f"addend {addend}", "weak" if weak else "")
+        return Binding(name, ordinal, f"at {fixup.segment.vmaddr + fixup.offset:#x} {offset:#x}", addend, bool(weak), False)
 
 
 def signed_above(value, greatest, less):
@@ -185,12 +184,16 @@ def fixups(image, _):
                     signed_words(pointer.auth))
 
 
-def bindings(image, _):
-    yield from opcode_bindings(image, None)
+def all_bindings(image):
+    yield from opcode_bindings(image)
     chains = chains_of(image)
     for fixup in chains.fixups() if chains else ():
         if fixup.pointer.kind == "bind":
             yield chains.binding(fixup)
+
+
+def bindings(image, _):
+    return (binding_line(image, bind) for bind in all_bindings(image))
 
 
 def rebases(image, _):

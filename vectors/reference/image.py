@@ -37,6 +37,7 @@ LIBRARY_KINDS = {"LC_LOAD_DYLIB": "required", "LC_LOAD_WEAK_DYLIB": "weak", "LC_
                  "LC_LOAD_UPWARD_DYLIB": "upward", "LC_LAZY_LOAD_DYLIB": "lazy"}
 ZERO_FILL = (0x01, 0x0c, 0x12)
 USE_FLAGS_MARK = 0x1a741800
+USED_WEAK, USED_REEXPORT = 1, 2
 
 Command = namedtuple("Command", "offset name cmd cmdsize body")
 NumberedSection = namedtuple("NumberedSection", "segment section record")
@@ -254,15 +255,18 @@ def symbols(image, _):
         yield item
 
 
-def use_of(image, command):
-    """Returns the words for how a library is used, by the flags of its command; without flags, by its kind."""
+def use_flags(image, command):
+    """Returns how a library is used, by the flags of its command; without flags, by its kind."""
     body = command.body
     has_flags = (command.name in ("LC_LOAD_DYLIB", "LC_LOAD_WEAK_DYLIB") and command.cmdsize >= 28 and body.name == 28
                  and body.timestamp == USE_FLAGS_MARK)
     if has_flags:
-        flags = number(image.data, command.offset + 24, 4, image.order)
-    else:
-        flags = {"weak": 1, "reexport": 2, "upward": 4}.get(LIBRARY_KINDS[command.name], 0)
+        return number(image.data, command.offset + 24, 4, image.order)
+    return {"weak": USED_WEAK, "reexport": USED_REEXPORT, "upward": 4}.get(LIBRARY_KINDS[command.name], 0)
+
+
+def use_of(image, command):
+    flags = use_flags(image, command)
     return words(*(f"used-{use}" for bit, use in enumerate(("weak", "reexport", "upward", "delayed")) if flags >> bit & 1))
 
 

@@ -22,6 +22,8 @@ REBASE_OPERANDS = {REBASE_SEGMENT: (uleb,), REBASE_ADVANCE: (uleb,), REBASE_TIME
                    REBASE_SKIPPING: (uleb, uleb)}
 
 Instruction = namedtuple("Instruction", "opcode immediate operands after")
+# What dyld binds: the name, the ordinal, the words of the place, the addend, whether the import is weak, and whether it is bound lazily.
+Binding = namedtuple("Binding", "name ordinal place addend is_weak is_lazy")
 
 
 def name_operand(data, place):
@@ -163,11 +165,15 @@ def binding_runs(image, start, size, lazy):
 def binding_items(image, start, size, lazy):
     for state, count, step in binding_runs(image, start, size, lazy):
         for bind in state.turns(count, step):
-            yield words(f"binding {quoted(bind.name)} of {provider_of(bind.library, image.libs)} {bind.place(image.pointer)} "
-                        f"addend {bind.addend}", bind.weak(), "lazy" if lazy else "")
+            yield Binding(bind.name, bind.library, bind.place(image.pointer), bind.addend, bool(bind.weak()), lazy)
 
 
-def opcode_bindings(image, _):
+def binding_line(image, bind):
+    return words(f"binding {quoted(bind.name)} of {provider_of(bind.ordinal, image.libs)} {bind.place} addend {bind.addend}",
+                 "weak" if bind.is_weak else "", "lazy" if bind.is_lazy else "")
+
+
+def opcode_bindings(image):
     body = image.last(*DYLD_INFO)
     if body:
         yield from binding_items(image, body.bind_off, body.bind_size, False)

@@ -9,6 +9,8 @@ REGULAR_KIND, UNKNOWN_KIND = 0, 3
 
 # A trie of an image: the bytes, the range's start and end, and the names of the libraries.
 Trie = namedtuple("Trie", "data start end libs")
+# An export: its address, or that of its stub; a stub's resolver; of a re-export the library and the name there, if one is given.
+Export = namedtuple("Export", "flags address resolver library name")
 
 
 def trie_of(image):
@@ -22,20 +24,30 @@ def trie_of(image):
 
 
 def read_info(trie, flags, place):
-    """Returns the words that an answer has after the name of an export."""
+    """Reads what follows the flags of an export."""
     value, place = uleb(trie.data, place)
     kind = flags % 4
     if kind != UNKNOWN_KIND and flags & REEXPORT:
         name = text(trie.data, place)
         require(value < len(trie.libs))
-        return words(f"of {quoted(trie.libs[value])}", f"as {quoted(name)}" if name else "", f"flags {flags:#x}")
+        return Export(flags, None, None, trie.libs[value], name)
     if kind == REGULAR_KIND and flags & STUB:
-        return f"stub {value:#x} resolver {uleb(trie.data, place)[0]:#x} flags {flags:#x}"
-    return f"at {value:#x} flags {flags:#x}"
+        return Export(flags, value, uleb(trie.data, place)[0], None, None)
+    return Export(flags, value, None, None, None)
+
+
+def export_line(name, export):
+    if export.library is not None:
+        what = words(f"of {quoted(export.library)}", f"as {quoted(export.name)}" if export.name else "")
+    elif export.resolver is not None:
+        what = f"stub {export.address:#x} resolver {export.resolver:#x}"
+    else:
+        what = f"at {export.address:#x}"
+    return f"export {quoted(name)} {what} flags {export.flags:#x}"
 
 
 def read_node(trie, start):
-    """Reads a node: the words of its own export, or None, and its branches, as labels and the starts of children."""
+    """Reads a node: its own export, or None, and its branches, as labels and the starts of children."""
     size, place = uleb(trie.data, start)
     own, branches = None, place + size
     if size:
@@ -72,7 +84,7 @@ def walk(image, _):
         name = prefix + label
         spend(len(name) // 16)
         if own:
-            yield f"export {quoted(name)} {own}"
+            yield export_line(name, own)
         opened.extend((name, label, child) for label, child in reversed(children))
 
 
@@ -80,10 +92,11 @@ def exports(image, _):
     return list(limited(walk(image, None)))
 
 
-def find(image, vector):
-    """Follows one branch as long as it alone fits and leads further on. After that it searches, and knows which nodes it has met."""
+def look_up(image, name):
+    """Returns the export of a name, or None. Follows one branch as long as it alone fits and leads further on. After that it searches, and knows
+    which nodes it has met."""
     trie, met = trie_of(image), None
-    opened = [(vector.wanted_name, trie.start)] if trie.start < trie.end else []
+    opened = [(name, trie.start)] if trie.start < trie.end else []
     while opened:
         rest, start = opened.pop()
         if met is not None:
@@ -91,12 +104,17 @@ def find(image, vector):
             met.add(start)
         own, children = read_node(trie, start)
         if own and not rest:
-            return f"export {quoted(vector.wanted_name)} {own}"
+            return own
         fitting = [(rest[len(label):], child) for label, child in children if rest.startswith(label) and child < trie.end]
         if met is None and (len(fitting) > 1 or fitting and fitting[0][1] <= start):
             met = {start}
         opened.extend(reversed(fitting))
-    return "none"
+    return None
+
+
+def find(image, vector):
+    export = look_up(image, vector.wanted_name)
+    return export_line(vector.wanted_name, export) if export else "none"
 
 
 LISTS = {"exports": exports, "walk": walk}

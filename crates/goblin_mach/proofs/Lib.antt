@@ -28,6 +28,8 @@ pub mod MappedItems
 pub mod MappedNearest
 pub mod LookedUpFacts
 pub mod LookUpLaws
+pub mod Changes
+pub mod PartLists
 pub mod ListBounds
 pub mod SectionBounds
 pub mod Files

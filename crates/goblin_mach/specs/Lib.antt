@@ -33,6 +33,9 @@ pub mod NearestSymbol
 pub mod MappedSymbols
 pub mod SymbolMaps
 pub mod LookedUpFacts
+pub mod AddressFound
+pub mod Stretches
+pub mod AllStretches
 pub mod Bounds
 pub mod FatFile
 pub mod File

@@ -36,10 +36,18 @@ mod view;
 // Whether the parts of an image lie as the format and its readers require.
 pub mod layout;
 
+// What an image has at an address, and the segments and sections that hold it.
+pub mod addresses;
+
 // Laws, and what is known of an image's results.
 mod facts;
 pub mod laws;
 
+pub use crate::addresses::AllStretches;
+pub use crate::addresses::FoundAt;
+pub use crate::addresses::SegmentStretches;
+pub use crate::addresses::Stretch;
+pub use crate::addresses::Stretches;
 pub use crate::bindings::BindingIterator;
 pub use crate::command_iterator::CommandIterator;
 pub use crate::exported::find_export;
@@ -158,6 +166,14 @@ pub mod slots {
     pub use mach_parts::{
         IndirectSymbol, IndirectSymbolIterator, IndirectSymbols, SlotIterator, SlotKind,
         SlotSource, SlotSymbol, SymbolSlot, symbol_slot_at,
+    };
+}
+
+/// The names of the format's numbers, and versions and UUIDs as texts.
+pub mod names {
+    pub use mach_records::{
+        Arch, FlagName, SourceVersionText, UuidText, VersionText, code_flags, command_name,
+        cpu_name, executable_flags, platform_name, rights_name, tool_name,
     };
 }
 

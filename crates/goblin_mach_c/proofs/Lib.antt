@@ -29,4 +29,6 @@ pub mod PartsWritten
 pub mod RefusedFiles
 pub mod ArchiveSaid
 pub mod NumberedVerdicts
+pub mod AddedRows
+pub mod FoundEntitlements
 mod LibraryRows

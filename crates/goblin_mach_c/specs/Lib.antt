@@ -2,6 +2,7 @@ pub mod Fill
 pub mod Codes
 pub mod CViews
 pub mod CommandRows
+pub mod CommandFieldRows
 pub mod PartRows
 pub mod SaidRows
 pub mod SegmentFinds
@@ -10,6 +11,8 @@ pub mod TableRows
 pub mod SectionRows
 pub mod SignatureRows
 pub mod EntitlementNumbers
+pub mod EntitlementRows
+pub mod EntitlementWrites
 pub mod RequirementWrites
 pub mod SecurityRows
 pub mod FatRows
@@ -44,3 +47,4 @@ pub mod LayoutRows
 pub mod ArchiveRows
 pub mod GivenFiles
 pub mod ResolveRows
+pub mod AuditRows

@@ -173,8 +173,8 @@ fn numbers_of(other: Option<Owner>) -> (u32, u64, u64)
     }
 }
 
-// Returns a fault as C sees it.
-fn row_of(fault: &LayoutFault) -> gm_layout_fault
+/// Returns a fault as C sees it.
+pub fn row_of(fault: &LayoutFault) -> gm_layout_fault
     ensures { result ≡ layout_row fault.now }
 {
     let (other_part, other_command, other_index) = numbers_of(fault.other);

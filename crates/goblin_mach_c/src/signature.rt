@@ -178,8 +178,8 @@ pub struct gm_signature_fault {
     pub code: u32,
 }
 
-// Returns a fault of a kind, for the directory at a slot, without numbers.
-fn fault_row(kind: u32, slot: u32) -> gm_signature_fault
+/// Returns a fault of a kind, for the directory at a slot, without numbers.
+pub fn fault_row(kind: u32, slot: u32) -> gm_signature_fault
     ensures { result ≡ rows.fault_row kind slot }
 {
     gm_signature_fault {
@@ -259,8 +259,8 @@ fn directory_row(slot: u32, fault: &DirectoryFault) -> gm_signature_fault
     }
 }
 
-// Returns a fault as C sees it.
-fn row_of_fault(fault: &SignatureFault) -> gm_signature_fault
+/// Returns a fault as C sees it.
+pub fn row_of_fault(fault: &SignatureFault) -> gm_signature_fault
     ensures { result ≡ rows.signature_fault_row (signature_fault_view fault.now) }
 {
     match fault {

@@ -1,10 +1,9 @@
 //! Symbols, read in place.
 
 ghost use Rattle.std.specs.Prelude.{◌≡◌, drop, length};
-ghost use Rattle.std.specs.List.{before_first};
 ghost use Rattle.mach_base.specs.Answer.{Reads};
 ghost use Rattle.mach_base.specs.Fault.{fault_of};
-ghost use Rattle.mach_base.specs.Text.{is_zero, run_at, text_at};
+ghost use Rattle.mach_base.specs.Text.{run_at, text_at};
 ghost use Rattle.mach_parts.specs.Symbols.{nlist_at, symbol_place};
 ghost use Rattle.goblin_mach_c.specs.Fill.{Fills};
 ghost use Rattle.goblin_mach_c.specs.SymbolRows.{named_row, symbol_row, symbol_rows, symbol_rows_left, symbol_table_in, gm_table_view, text_code, unread_row};
@@ -14,6 +13,7 @@ use crate::images::{ctx_of, gm_image};
 use crate::layout::from;
 use crate::rows::{Rows, fill};
 use mach_base::{Container, Ctx, Error, Record, Result, SizeWith, read_text};
+use mach_command_fields::before_zero;
 use mach_parts::symbols::{Nlist, Nlist32, Nlist64, Symbols};
 
 /// A symbol. Its name is `name_len` bytes at `name`, up to a zero byte.
@@ -57,14 +57,6 @@ fn record_at(bytes: &[u8], place: usize, ctx: Ctx) -> Result<Nlist>
         Container::Little => Ok(Nlist::from(Nlist32::read(bytes, place, ctx.le)?)),
         Container::Big => Ok(Nlist::from(Nlist64::read(bytes, place, ctx.le)?)),
     }
-}
-
-// Returns the bytes up to the first zero.
-fn before_zero(bytes: &[u8]) -> &[u8]
-    ensures { result.now ≡ before_first is_zero bytes.now }
-{
-    let len = bytes.iter().position(|b| *b == 0).unwrap_or(bytes.len());
-    &bytes[..len]
 }
 
 // Returns how many bytes come before the first zero from a place on.

@@ -2,10 +2,12 @@
 use Rattle.std.proofs.Common.{◌≡◌, ◌+◌, ◌∙◌, ℕ, List, ◌∷◌, Bool, true, false, Option, Some, None, drop, refl, sym, ap, subst, length, get_or, string_bytes}
 use Rattle.std.specs.Prelude.{◌<◌, ⊤}
 use Rattle.std.proofs.lemmas.List.{drop_more}
-use Rattle.mach_cli.specs.Calls.{ParsedCall, IsCputype, TakesOwn, TakesDashed, TakesJoined, TakesValue, AddsWord, AddsWords, AreUntaken, Selects}
+use Rattle.mach_cli.specs.Calls.{ParsedCall, Wanted, a_text, IsCputype, TakesOwn, TakesDashed, TakesJoined, TakesValue, AddsWord, AddsWords}
+use Rattle.mach_cli.specs.Calls.{AreUntaken, Requests}
+use Rattle.mach_cli.specs.declared.call.Asked.{Asked}
 use Rattle.mach_cli.specs.Calls.{joined_in, kind_at, of_arch, of_number, TakesWord}
 use Rattle.mach_cli.specs.CallWords.{word_text}
-use Rattle.mach_cli.specs.Cpus.{ArchRow}
+use Rattle.mach_records.specs.CpuNames.{ArchRow}
 use Rattle.mach_cli.specs.declared.call.Kind.{Kind}
 use Rattle.mach_cli.specs.declared.call.Kind.TheVariants as kinds
 use Rattle.mach_cli.specs.declared.color.Color.{Color}
@@ -18,12 +20,12 @@ use Rattle.mach_cli.specs.declared.call.Valued.TheVariants as valued
 use Rattle.mach_cli.specs.declared.word.Word.{Word}
 use Rattle.mach_cli.specs.declared.word.Word.TheVariants.{Text, Bytes}
 
--- what arguments still add to a call, by where they are: after an option, after `--`, or elsewhere
+-- what arguments that are left request, by where they are: after an option, after `--`, or elsewhere
 abbrev pub GoesOn : {O : Type 0} → (O → List ℕ → O × Bool) → Options → Option Valued → (is_plain : Bool) → (old : ParsedCall O) → List Word
-    → (new : ParsedCall O) → Type 0
-GoesOn taken options (Some option) is_plain old words new = Selects taken options (Some option) old words new
-GoesOn taken options None true old words new = AddsWords options old words new
-GoesOn taken options None false old words new = Selects taken options None old words new
+    → (wanted : Wanted O) → Type 0
+GoesOn taken options (Some option) is_plain old words wanted = Requests taken options (Some option) old words wanted
+GoesOn taken options None true old words wanted = AddsWords options old words wanted
+GoesOn taken options None false old words wanted = Requests taken options None old words wanted
 
 -- ---- an argument extends a call in one way only
 
@@ -79,21 +81,9 @@ some_none : (option : Valued) → Some option ≡ None → ⊥
 unfolding IsThere
 some_none option same = subst IsThere same cc
 
--- kinds of arguments that lead to no call
-abbrev pub IsNoCall : Kind → Type 0
-IsNoCall kinds.Help = ⊤
-IsNoCall kinds.Version = ⊤
-IsNoCall kinds.Plain = ⊥
-IsNoCall kinds.Nul = ⊥
-IsNoCall (kinds.Form format) = ⊥
-IsNoCall (kinds.Valued option) = ⊥
-IsNoCall kinds.Other = ⊥
-IsNoCall kinds.Own = ⊥
-
 abbrev IsOther : Kind → Type 0
-IsOther kinds.Help = ⊥
-IsOther kinds.Version = ⊥
 IsOther kinds.Plain = ⊥
+IsOther (kinds.Asks asked) = ⊥
 IsOther kinds.Nul = ⊥
 IsOther (kinds.Form format) = ⊥
 IsOther (kinds.Valued option) = ⊥
@@ -102,6 +92,9 @@ IsOther kinds.Own = ⊥
 
 other-plain : kinds.Other ≡ kinds.Plain → ⊥
 other-plain same = subst IsOther same cc
+
+other-asks : (asked : Asked) → kinds.Other ≡ kinds.Asks asked → ⊥
+other-asks asked same = subst IsOther same cc
 
 other-nul : kinds.Other ≡ kinds.Nul → ⊥
 other-nul same = subst IsOther same cc
@@ -126,7 +119,7 @@ unfolding IsFalse
 option_open options text option true before kind same = absurd (other-valued option kind)
 option_open options text option false before kind same = absurd (subst IsFalse same cc)
 
--- two conditions hold for the same calls
+-- two conditions hold for the same things
 abbrev pub Same : {C : Type 0} → (C → Type 0) → (C → Type 0) → Type 0
 Same {C} P Q = ((new : C) → P new → Q new) × ((new : C) → Q new → P new)
 
@@ -134,7 +127,7 @@ pub same_over : {C : Type 0} (P Q R : C → Type 0) → Same P Q → Same Q R �
 same_over P Q R one two = (λ new p. two.0 new (one.0 new p), λ new r. one.1 new (two.1 new r))
 
 -- a step with only one result can be replaced by that result
-pub next_one : {C : Type 0} (Makes : C → Type 0) (next : C) → Makes next → ((x : C) → Makes x → x ≡ next) → (Then : C → C → Type 0)
+pub next_one : {C D : Type 0} (Makes : C → Type 0) (next : C) → Makes next → ((x : C) → Makes x → x ≡ next) → (Then : C → D → Type 0)
     → Same (λ new. (x : C) × Makes x × Then x new) (Then next)
 next_one {C} Makes next made only Then = (
   λ new all. subst (λ (x : C). Then x new) (only all.0 all.1) all.2,
@@ -145,7 +138,7 @@ module _ {O : Type 0} (taken : O → List ℕ → O × Bool) (options : Options)
   pub valued_step : (option : Valued) (is_plain : Bool) (next : ParsedCall O) → TakesWord option word old next
       → Same (GoesOn taken options (Some option) is_plain old (word ∷ words)) (GoesOn taken options None false next words)
   valued_step option is_plain next takes =
-      next_one (TakesWord option word old) next takes (λ x t. word-one option word old x next t takes) (λ x new. Selects taken options None x words new)
+      next_one (TakesWord option word old) next takes (λ x t. word-one option word old x next t takes) (λ x new. Requests taken options None x words new)
 
   pub other_step : (is_plain : Bool) (next : ParsedCall O) → kind_at is_plain options (word_text word) ≡ kinds.Other → AddsWord options word old next
       → Same (GoesOn taken options None is_plain old (word ∷ words)) (GoesOn taken options None is_plain next words)
@@ -153,7 +146,7 @@ module _ {O : Type 0} (taken : O → List ℕ → O × Bool) (options : Options)
       next_one (AddsWord options word old) next adds (λ x a. adds-one options word old x next a adds) (λ x new. AddsWords options x words new)
   other_step false next kind adds =
       rw kind
-      (next_one (AddsWord options word old) next adds (λ x a. adds-one options word old x next a adds) (λ x new. Selects taken options None x words new))
+      (next_one (AddsWord options word old) next adds (λ x a. adds-one options word old x next a adds) (λ x new. Requests taken options None x words new))
 
   pub own_step : (is_plain : Bool) (next : ParsedCall O) → kind_at is_plain options (word_text word) ≡ kinds.Own
       → TakesDashed taken options (word_text word) old next
@@ -161,7 +154,7 @@ module _ {O : Type 0} (taken : O → List ℕ → O × Bool) (options : Options)
   own_step true next kind takes = absurd (other-own kind)
   own_step false next kind takes =
       rw kind (next_one (TakesDashed taken options (word_text word) old) next takes (λ x t. dashed-one taken options (word_text word) old x next t takes)
-      (λ x new. Selects taken options None x words new))
+      (λ x new. Requests taken options None x words new))
 
   pub plain_step : (is_plain : Bool) → kind_at is_plain options (word_text word) ≡ kinds.Plain
       → Same (GoesOn taken options None is_plain old (word ∷ words)) (GoesOn taken options None true old words)
@@ -183,36 +176,29 @@ module _ {O : Type 0} (taken : O → List ℕ → O × Bool) (options : Options)
   option_step option true kind = absurd (other-valued option kind)
   option_step option false kind = rw kind (λ new a. a, λ new a. a)
 
-  -- these arguments extend to no call
-  pub selects_none : (is_plain : Bool) (kind : Kind) → kind_at is_plain options (word_text word) ≡ kind → IsNoCall kind
-      → (new : ParsedCall O) → GoesOn taken options None is_plain old (word ∷ words) new → ⊥
-  selects_none true kind is none new selects = subst IsNoCall (sym is) none
-  selects_none false kinds.Help is none new selects = rw is at selects
-  selects_none false kinds.Version is none new selects = rw is at selects
-  selects_none false kinds.Plain is none new selects = none
-  selects_none false kinds.Nul is none new selects = none
-  selects_none false (kinds.Form format) is none new selects = none
-  selects_none false (kinds.Valued option) is none new selects = none
-  selects_none false kinds.Other is none new selects = none
-  selects_none false kinds.Own is none new selects = none
+  -- an argument that asks for a text is the last that counts
+  pub asks_text : (asked : Asked) (is_plain : Bool) → kind_at is_plain options (word_text word) ≡ kinds.Asks asked
+      → GoesOn taken options None is_plain old (word ∷ words) (a_text asked)
+  asks_text asked true kind = absurd (other-asks asked kind)
+  asks_text asked false kind = rw kind refl
 
   -- an argument is taken as a value or as an own option, or added
-  pub valued_made : (option : Valued) (is_plain : Bool) (new : ParsedCall O) → GoesOn taken options (Some option) is_plain old (word ∷ words) new
+  pub valued_made : (option : Valued) (is_plain : Bool) (new : Wanted O) → GoesOn taken options (Some option) is_plain old (word ∷ words) new
       → (x : ParsedCall O) × TakesWord option word old x
   valued_made option is_plain new selects = (selects.0, selects.1)
 
-  pub other_made : (is_plain : Bool) → kind_at is_plain options (word_text word) ≡ kinds.Other → (new : ParsedCall O)
+  pub other_made : (is_plain : Bool) → kind_at is_plain options (word_text word) ≡ kinds.Other → (new : Wanted O)
       → GoesOn taken options None is_plain old (word ∷ words) new → (x : ParsedCall O) × AddsWord options word old x
   other_made true kind new selects = (selects.0, selects.1)
   other_made false kind new selects = let all = rw kind at selects in (all.0, all.1)
 
-  pub own_made : (is_plain : Bool) → kind_at is_plain options (word_text word) ≡ kinds.Own → (new : ParsedCall O)
+  pub own_made : (is_plain : Bool) → kind_at is_plain options (word_text word) ≡ kinds.Own → (new : Wanted O)
       → GoesOn taken options None is_plain old (word ∷ words) new → (x : ParsedCall O) × TakesDashed taken options (word_text word) old x
   own_made true kind new selects = absurd (other-own kind)
   own_made false kind new selects = let all = rw kind at selects in (all.0, all.1)
 
--- if one argument isn't taken, the arguments extend to no call
-pub untaken_all : {O : Type 0} (Makes All : ParsedCall O → Type 0) (e : Untaken) → ((new : ParsedCall O) → All new → (x : ParsedCall O) × Makes x)
+-- if one argument isn't taken, the arguments request nothing
+pub untaken_all : {C D : Type 0} (Makes : C → Type 0) (All : D → Type 0) (e : Untaken) → ((new : D) → All new → (x : C) × Makes x)
     → AreUntaken Makes e → AreUntaken All e
 untaken_all Makes All (Misuse misuse) made none = λ new all. let one = made new all in none one.0 one.1
 untaken_all Makes All Memory made none = cc

@@ -10,7 +10,7 @@ use Rattle.mach_cli.proofs.OneLine.{no_feed-printed, no_feed-repeat, no_feed-sig
 use Rattle.mach_cli.specs.Escapes.{escaped_text, has_no_feed, IsOneLine}
 use Rattle.mach_cli.specs.Fields.{FieldView, ValueView, number, signed, hex, named, text, optional_text, version, source_version, uuid, flag, flags, auth_text}
 use Rattle.mach_cli.specs.Fields.{column_text, column_field, flags_text, fields_line, fields_pairs, pair_field, spaces, value_in_line, value_in_width, word_if}
-use Rattle.mach_cli.specs.Values.{source_version_text, upper_byte, upper_bytes, uuid_text, version_text}
+use Rattle.mach_records.specs.Values.{source_version_text, upper_byte, upper_bytes, uuid_text, version_text}
 
 no_feed-auth : (a : Auth) → has_no_feed (auth_text a) ≡ true
 no_feed-auth a = search (no_feeds, rules)

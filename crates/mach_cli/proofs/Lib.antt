@@ -20,6 +20,5 @@ mod Formed
 pub mod FieldLines
 mod HexWords
 mod ShortNames
-mod Changes
-pub mod PartLists
+mod Padding
 mod Painting

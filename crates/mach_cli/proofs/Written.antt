@@ -1,8 +1,8 @@
 -- How a text is written, and where its characters begin.
-use Rattle.std.proofs.Common.{◌≡◌, ◌∙◌, ◌⊎◌, ℕ, zero, suc, ◌+◌, ◌-◌, ◌*◌, ◌/◌, ◌%◌, ◌<◌, ◌≤◌, ◌==◌, ◌&&◌, ◌||◌, nat_lt, Bool, cond, true, false, List}
+use Rattle.std.proofs.Common.{◌≡◌, ◌∙◌, ◌⊎◌, ℕ, zero, suc, ◌+◌, ◌-◌, ◌*◌, ◌/◌, ◌%◌, ◌<◌, ◌≤◌, ◌==◌, ◌&&◌, ◌||◌, nat_lt, Bool, cond, not, true, false, List}
 use Rattle.std.proofs.Common.{[], ◌∷◌, ◌++◌, length, get_or, take, drop, inl, inr, ⊎_elim, refl, sym, ap}
 use Rattle.std.proofs.Common.{length-append, append-nil, append_assoc, arith, drop-drop, get_or-drop, length-drop, take_all}
-use Rattle.std.proofs.lemmas.Bool.{and_parts, eq-eqb, lt-ltb, ne_eqb}
+use Rattle.std.proofs.lemmas.Bool.{and_parts, eq-eqb, lt-ltb, ne_eqb, not-true}
 use Rattle.std.proofs.lemmas.Bool.Decides.{leb_tells, nat_tests}
 use Rattle.std.proofs.lemmas.List.{drop_all, drop_at, take_at, drop_more, get_or_default, get_or_past, take_more}
 use Rattle.std.proofs.lemmas.Str.{IsCharBoundary-past_char, IsUtf8-drop, encode_ascii, utf8_valid_len_le}
@@ -10,11 +10,11 @@ use Rattle.std.proofs.Math.Nat.{sub_self}
 use Rattle.std.proofs.Math.Utf8.{encode}
 use Rattle.std.specs.Char.{len_utf8}
 use Rattle.std.specs.Int.{is_in_range}
-use Rattle.std.specs.List.{flat_map}
+use Rattle.std.specs.List.{flat_map, list_all}
 use Rattle.std.specs.Str.Lossy.{after_first_chunk, utf8_invalid_len, utf8_valid_len}
 use Rattle.std.specs.Str.{IsCharBoundary, IsUtf8}
 use Rattle.mach_cli.specs.Escapes.{byte_in, escape_len, escape_of, escape_text, escaped_bytes, escaped_bytes_within, escaped_text, hidden_len}
-use Rattle.mach_cli.specs.Escapes.{char_of_four, char_of_three, char_of_two, hides_four, hides_three, hides_two, is_hidden, is_quoted, is_tail}
+use Rattle.mach_cli.specs.Escapes.{char_of_four, char_of_three, char_of_two, hides_four, hides_three, hides_two, is_hidden, is_visible, is_quoted, is_tail}
 use Rattle.mach_cli.specs.Escapes.{written, written_past}
 use Rattle.mach_cli.specs.declared.escaped.Style.{Style}
 use Rattle.mach_cli.specs.declared.escaped.Style.TheVariants.{Json, Name}
@@ -122,6 +122,24 @@ hidden_within s = ⊎_elim (λ none. omega (arith, none)) (λ some. kind_within 
 
 pub escape_within : (style : Style) (s : List ℕ) → escape_len style s ≤ length s
 escape_within style s = ⊎_elim (λ none. omega (arith, none)) (λ some. kind_within s _ (escape_kind style s some)) (zero_or_more (escape_len style s))
+
+-- ---- texts without escapes
+
+plain_kept : (style : Style) (b : ℕ) (rest : List ℕ) → is_visible style b ≡ true → escape_len style (b ∷ rest) ≡ 0
+unfolding escape_len hidden_len
+plain_kept style b rest plain =
+    let parts = and_parts (is_in_range 0x20 0x7e b) (not (is_quoted style b)) plain in
+    let quoted : is_quoted style b ≡ false = not-true (is_quoted style b) parts.1 in
+    let seven : nat_lt b 0x80 ≡ true = let low = parts.0 in grind (arith, nat_tests) in
+    let shown : (nat_lt b 0x20 || b == 0x7f) ≡ false = let low = parts.0 in grind (arith, nat_tests) in
+    rw (quoted, seven, shown) refl
+
+pub written_plain : (style : Style) (text : List ℕ) → list_all (is_visible style) text ≡ true → text ≡ written style text
+unfolding written
+written_plain style [] all = refl
+written_plain style (b ∷ rest) all =
+    let parts = and_parts (is_visible style b) (list_all (is_visible style) rest) all in
+    rw (plain_kept style b rest parts.0) (ap (λ t. b ∷ t) (written_plain style rest parts.1))
 
 -- ---- where characters begin
 

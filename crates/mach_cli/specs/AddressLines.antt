@@ -7,9 +7,9 @@ use Rattle.mach_parts.specs.declared.segment.numbered.NumberedSection.{NumberedS
 use Rattle.goblin_mach.specs.declared.macho.nearest.Function.{Function}
 use Rattle.goblin_mach.specs.declared.macho.nearest.SymbolAt.{SymbolAt}
 use Rattle.mach_cli.specs.Listings.{hex_text}
-use Rattle.mach_cli.specs.AddressFound.{IsFoundAt}
+use Rattle.goblin_mach.specs.AddressFound.{IsFoundAt}
 use Rattle.mach_cli.specs.NamesShown.{file_if, file_text, name_or_mark, name_shown}
-use Rattle.mach_cli.specs.declared.address.FoundAt.{FoundAt}
+use Rattle.goblin_mach.specs.declared.addresses.FoundAt.{FoundAt}
 
 -- the names of a section's segment and of the section; a mark for one that can't be read
 abbrev pub holder_text : (is_raw : Bool) → Section64 → List ℕ

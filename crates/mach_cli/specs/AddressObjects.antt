@@ -4,8 +4,8 @@ use Rattle.std.specs.Fmt.{decimal}
 use Rattle.mach_parts.specs.declared.segment.numbered.NumberedSection.{NumberedSection}
 use Rattle.goblin_mach.specs.declared.macho.nearest.Function.{Function}
 use Rattle.mach_cli.specs.JsonText.{name_in_field, string_or_null}
-use Rattle.mach_cli.specs.AddressFound.{IsFoundAt}
-use Rattle.mach_cli.specs.declared.address.FoundAt.{FoundAt}
+use Rattle.goblin_mach.specs.AddressFound.{IsFoundAt}
+use Rattle.goblin_mach.specs.declared.addresses.FoundAt.{FoundAt}
 
 -- a number; null if there is none
 abbrev pub number_or_null : Option ℕ → List ℕ

@@ -7,17 +7,20 @@ use Rattle.std.specs.Borrow.{Bor}
 use Rattle.std.specs.Str.Parse.{IsNumeral, digits_value, without_leading_plus}
 use Rattle.mach_base.specs.Text.{texts}
 use Rattle.mach_cli.specs.Colors.{color_named}
-use Rattle.mach_cli.specs.Cpus.{ArchRow, arch_named, arch_row_of, arch_rows}
+use Rattle.mach_records.specs.CpuNames.{ArchRow, arch_named, arch_row_of, arch_rows}
 use Rattle.mach_cli.specs.CallWords.{word_text}
+use Rattle.mach_cli.specs.declared.call.Asked.{Asked}
+use Rattle.mach_cli.specs.declared.call.Asked.TheVariants as texts_asked
 use Rattle.mach_cli.specs.declared.call.Call.{Call}
 use Rattle.mach_cli.specs.declared.call.Kind.{Kind}
 use Rattle.mach_cli.specs.declared.call.Kind.TheVariants as kinds
 use Rattle.mach_cli.specs.declared.call.Request.{Request}
 use Rattle.mach_cli.specs.declared.call.Request.TheVariants as requests
 use Rattle.mach_cli.specs.declared.call.Untaken.{Untaken}
-use Rattle.mach_cli.specs.declared.call.Untaken.TheVariants.{Misuse, Memory}
+use Rattle.mach_cli.specs.declared.call.Untaken.TheVariants as untaken
 use Rattle.mach_cli.specs.declared.call.Valued.{Valued}
 use Rattle.mach_cli.specs.declared.call.Valued.TheVariants as valued
+use Rattle.mach_cli.specs.declared.misuse.Misuse.TheVariants as misuses
 use Rattle.mach_cli.specs.declared.color.Color.{Color}
 use Rattle.mach_cli.specs.declared.color.Color.TheVariants as colors
 use Rattle.mach_cli.specs.declared.options.Format.{Format}
@@ -81,6 +84,11 @@ call_view c = record {
   no_texts = map byte_word_of c.others.no_texts.items;
 }
 
+-- what arguments request: one of the texts that a program has about itself, or a call
+pub data Wanted (O : Type 0) : Type 0 where
+  a_text : (asked : Asked) → Wanted O
+  a_call : (call : ParsedCall O) → Wanted O
+
 -- before the first argument, with these options of the program's own
 abbrev pub empty_call : {O : Type 0} → O → ParsedCall O
 empty_call own = record {
@@ -141,8 +149,9 @@ TakesValue valued.Names word old new = new ≡ record old { lists = old.lists ++
 abbrev pub word_kind : Options → List ℕ → Kind
 word_kind options word =
     if bytes_eq word (codes "--") then kinds.Plain
-    else if bytes_eq word (codes "-h") || bytes_eq word (codes "--help") then kinds.Help
-    else if bytes_eq word (codes "--version") then kinds.Version
+    else if bytes_eq word (codes "-h") then kinds.Asks texts_asked.Usage
+    else if bytes_eq word (codes "--help") then kinds.Asks texts_asked.Help
+    else if bytes_eq word (codes "--version") then kinds.Asks texts_asked.Version
     else if bytes_eq word (codes "-0") && options.has_files then kinds.Nul
     else if bytes_eq word (codes "--json") && options.has_json then kinds.Form formats.Json
     else if bytes_eq word (codes "--quiet") && options.has_quiet then kinds.Form formats.Quiet
@@ -155,6 +164,20 @@ word_kind options word =
     else if bytes_eq word (codes "-") then kinds.Other
     else if get_or word 0 0 == 0x2d then kinds.Own
     else kinds.Other
+
+-- whether an argument of this kind is an option that programs share
+abbrev pub is_shared_kind : Kind → Bool
+is_shared_kind kinds.Plain = true
+is_shared_kind (kinds.Asks asked) = true
+is_shared_kind kinds.Nul = true
+is_shared_kind (kinds.Form format) = true
+is_shared_kind (kinds.Valued option) = true
+is_shared_kind kinds.Other = false
+is_shared_kind kinds.Own = false
+
+-- whether a program with these options has a shared one of this name
+abbrev pub is_shared : Options → List ℕ → Bool
+is_shared options name = is_shared_kind (word_kind options name)
 
 -- the kind of an argument that is no option's value; after `--` it is no option
 abbrev pub kind_at : (is_plain : Bool) → Options → List ℕ → Kind
@@ -172,9 +195,9 @@ AddsWord options (Bytes number bytes) old new = (options.has_files ≡ true)
     × (new ≡ record old { no_texts = old.no_texts ++ record { number = number; bytes = bytes.items } ∷ [] })
 
 -- Arguments are added in order; none is an option.
-abbrev pub AddsWords : {O : Type 0} → Options → (old : ParsedCall O) → List Word → (new : ParsedCall O) → Type 0
-AddsWords options old [] new = new ≡ old
-AddsWords {O} options old (word ∷ words) new = (next : ParsedCall O) × AddsWord options word old next × AddsWords options next words new
+abbrev pub AddsWords : {O : Type 0} → Options → (old : ParsedCall O) → List Word → (wanted : Wanted O) → Type 0
+AddsWords options old [] wanted = wanted ≡ a_call old
+AddsWords {O} options old (word ∷ words) wanted = (next : ParsedCall O) × AddsWord options word old next × AddsWords options next words wanted
 
 -- The program has an option of its own, and takes it; `taken` says what its own options are after an argument, and whether it has
 -- that as an option.
@@ -207,41 +230,67 @@ abbrev pub TakesDashed : {O : Type 0} → (taken : O → List ℕ → O × Bool)
 TakesDashed taken options word old new = TakesJoined taken word (joined_in options word) old new
 
 -- what holds for an argument, by its kind
-abbrev pub ByKind : Kind → (plain nul : Type 0) → (form : Format → Type 0) → (value : Valued → Type 0) → (other own : Type 0) → Type 0
-ByKind kinds.Plain plain nul form value other own = plain
-ByKind kinds.Help plain nul form value other own = ⊥
-ByKind kinds.Version plain nul form value other own = ⊥
-ByKind kinds.Nul plain nul form value other own = nul
-ByKind (kinds.Form format) plain nul form value other own = form format
-ByKind (kinds.Valued option) plain nul form value other own = value option
-ByKind kinds.Other plain nul form value other own = other
-ByKind kinds.Own plain nul form value other own = own
+abbrev pub ByKind : Kind → (plain : Type 0) → (text : Asked → Type 0) → (nul : Type 0) → (form : Format → Type 0) → (value : Valued → Type 0)
+    → (other own : Type 0) → Type 0
+ByKind kinds.Plain plain text nul form value other own = plain
+ByKind (kinds.Asks asked) plain text nul form value other own = text asked
+ByKind kinds.Nul plain text nul form value other own = nul
+ByKind (kinds.Form format) plain text nul form value other own = form format
+ByKind (kinds.Valued option) plain text nul form value other own = value option
+ByKind kinds.Other plain text nul form value other own = other
+ByKind kinds.Own plain text nul form value other own = own
 
--- Arguments extend the call `old` to `new`. The last argument before them may be an option that lacks its value. An option takes
--- the argument after it, or has its value after `=`; all arguments after `--` are others, and so is each argument that is no
--- option. An option that isn't shared is one of the program's own.
-abbrev pub Selects : {O : Type 0} → (taken : O → List ℕ → O × Bool) → Options → (option : Option Valued) → (old : ParsedCall O) → List Word
-    → (new : ParsedCall O) → Type 0
-Selects taken options None old [] new = new ≡ old
-Selects taken options (Some option) old [] new = ⊥
-Selects {O} taken options (Some option) old (word ∷ words) new =
-    (next : ParsedCall O) × TakesWord option word old next × Selects taken options None next words new
-Selects {O} taken options None old (word ∷ words) new =
-    ByKind (word_kind options (word_text word)) (AddsWords options old words new)
-    (Selects taken options None (record old { ends_with_nul = true }) words new)
-    (λ format. Selects taken options None (record old { format = format }) words new)
-    (λ option. Selects taken options (Some option) old words new)
-    ((next : ParsedCall O) × AddsWord options word old next × Selects taken options None next words new)
-    ((next : ParsedCall O) × TakesDashed taken options (word_text word) old next × Selects taken options None next words new)
+-- What arguments request that follow those of the call `old`. The last argument before them may be an option that lacks its value. An
+-- option takes the argument after it, or has its value after `=`; all arguments after `--` are others, and so is each argument that is
+-- no option. An option that isn't shared is one of the program's own. One that asks for a text is the last that is read.
+abbrev pub Requests : {O : Type 0} → (taken : O → List ℕ → O × Bool) → Options → (option : Option Valued) → (old : ParsedCall O) → List Word
+    → (wanted : Wanted O) → Type 0
+Requests taken options None old [] wanted = wanted ≡ a_call old
+Requests taken options (Some option) old [] wanted = ⊥
+Requests {O} taken options (Some option) old (word ∷ words) wanted =
+    (next : ParsedCall O) × TakesWord option word old next × Requests taken options None next words wanted
+Requests {O} taken options None old (word ∷ words) wanted =
+    ByKind (word_kind options (word_text word)) (AddsWords options old words wanted)
+    (λ asked. wanted ≡ a_text asked)
+    (Requests taken options None (record old { ends_with_nul = true }) words wanted)
+    (λ format. Requests taken options None (record old { format = format }) words wanted)
+    (λ option. Requests taken options (Some option) old words wanted)
+    ((next : ParsedCall O) × AddsWord options word old next × Requests taken options None next words wanted)
+    ((next : ParsedCall O) × TakesDashed taken options (word_text word) old next × Requests taken options None next words wanted)
 
--- The request is what the arguments add to a call: this call; or they request no call.
+-- The arguments of a program request this call; its own options are `own` before the first argument.
+abbrev pub Selects : {O : Type 0} → (taken : O → List ℕ → O × Bool) → Options → (own : O) → List Word → (call : ParsedCall O) → Type 0
+Selects taken options own words call = Requests taken options None (empty_call own) words (a_call call)
+
+-- The arguments of a program ask for this text: one of them does, and all before it are taken.
+abbrev pub AsksFor : {O : Type 0} → (taken : O → List ℕ → O × Bool) → Options → (own : O) → List Word → Asked → Type 0
+AsksFor taken options own words asked = Requests taken options None (empty_call own) words (a_text asked)
+
+-- The request is the one of the arguments that follow those of a call; or they request nothing, neither a text nor a call.
 abbrev pub IsRequest : {A O : Type 0} → (taken : O → List ℕ → O × Bool) → Options → (old : ParsedCall O) → List Word → Request A O → Type 0
-IsRequest taken options old words (requests.Call call) = Selects taken options None old words (call_view call)
-IsRequest {A} {O} taken options old words requests.Help = (new : ParsedCall O) → Selects taken options None old words new → ⊥
-IsRequest {A} {O} taken options old words requests.Version = (new : ParsedCall O) → Selects taken options None old words new → ⊥
-IsRequest {A} {O} taken options old words (requests.Nothing misuse) = (new : ParsedCall O) → Selects taken options None old words new → ⊥
+IsRequest taken options old words (requests.Call call) = Requests taken options None old words (a_call (call_view call))
+IsRequest taken options old words (requests.Asks asked) = Requests taken options None old words (a_text asked)
+IsRequest {A} {O} taken options old words (requests.Nothing misuse) = (wanted : Wanted O) → Requests taken options None old words wanted → ⊥
 
--- The arguments are at fault: they extend to no call.
-abbrev pub AreUntaken : {O : Type 0} → (ParsedCall O → Type 0) → Untaken → Type 0
-AreUntaken {O} made (Misuse misuse) = (new : ParsedCall O) → made new → ⊥
-AreUntaken made Memory = ⊤
+-- The arguments are at fault: they make nothing that they should make.
+abbrev pub AreUntaken : {T : Type 0} → (T → Type 0) → Untaken → Type 0
+AreUntaken {T} Makes (untaken.Misuse misuse) = (made : T) → Makes made → ⊥
+AreUntaken Makes untaken.Memory = ⊤
+
+-- why an option doesn't take a value: the value is none of its values, or memory runs out for a list
+abbrev pub untaken_by : Valued → Bor (List ℕ) → Untaken
+untaken_by valued.Limit word = untaken.Misuse (misuses.NoNumber word)
+untaken_by valued.Arch word = untaken.Misuse (misuses.NoCpu word)
+untaken_by valued.Cputype word = untaken.Misuse (misuses.NoCpu word)
+untaken_by valued.Address word = untaken.Misuse (misuses.NoAddress word)
+untaken_by valued.Color word = untaken.Misuse (misuses.NoColor word)
+untaken_by valued.Names word = untaken.Memory
+
+-- what is missing if no value follows an option
+abbrev pub what_is_missing : Valued → List ℕ
+what_is_missing valued.Limit = codes "number after --limit"
+what_is_missing valued.Arch = codes "NAME after --arch"
+what_is_missing valued.Cputype = codes "0xN after --cputype"
+what_is_missing valued.Address = codes "ADDRESS after --at"
+what_is_missing valued.Color = codes "WHEN after --color"
+what_is_missing valued.Names = codes "FILE after --names"

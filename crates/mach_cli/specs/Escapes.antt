@@ -94,6 +94,10 @@ abbrev pub is_quoted : Style → ℕ → Bool
 is_quoted Name b = b == 0x5c
 is_quoted Json b = b == 0x5c || b == 0x22
 
+-- a byte that is written unchanged, whatever is beside it: visible ASCII without such a character
+abbrev pub is_visible : Style → ℕ → Bool
+is_visible style b = is_in_range 0x20 0x7e b && not (is_quoted style b)
+
 -- how many of the first bytes are one character that is escaped; 0 if the first one isn't
 unfoldable pub escape_len : Style → List ℕ → ℕ
 escape_len style text = if is_quoted style (byte_in text 0) then 1 else hidden_len text

@@ -9,7 +9,7 @@ use Rattle.mach_parts.specs.PointerSigning.{Auth, auth_option_view}
 use Rattle.mach_cli.specs.Escapes.{escaped_text}
 use Rattle.mach_cli.specs.JsonText.{json_bool, json_string}
 use Rattle.mach_cli.specs.Listings.{hex_text}
-use Rattle.mach_cli.specs.Values.{source_version_text, uuid_text, version_text}
+use Rattle.mach_records.specs.Values.{source_version_text, uuid_text, version_text}
 use Rattle.mach_cli.specs.declared.fields.Field.{Field}
 use Rattle.mach_cli.specs.declared.fields.Value.{Value}
 use Rattle.mach_cli.specs.declared.fields.Value.TheVariants as values

@@ -21,7 +21,6 @@ pub mod PartsOf
 pub mod ShownParts
 pub mod JsonText
 pub mod JsonArrays
-pub mod Values
 pub mod Fields
 pub mod Signing
 pub mod Origins
@@ -37,14 +36,14 @@ pub mod SignatureNames
 pub mod Bounds
 pub mod CallWords
 pub mod Calls
+pub mod ProgramTexts
 pub mod Listed
 pub mod TableEntries
 pub mod Titles
-pub mod Stretches
-pub mod AllStretches
+pub mod SectionNames
 pub mod Colors
 pub mod Painted
 pub mod NamesShown
-pub mod AddressFound
 pub mod AddressLines
 pub mod AddressObjects
+pub mod Outputs

@@ -2,17 +2,18 @@
 
 ghost use Rattle.std.specs.Prelude.{◌≡◌, None, option_map, IfErr, IfOk, OnOk};
 ghost use Rattle.mach_dyld.specs.Exports.{text_in};
-ghost use Rattle.mach_cli.specs.Calls.{call_view, empty_call, kind_at, word_kind, AddsWord, AreUntaken, Selects, IsRequest, TakesValue};
-ghost use Rattle.mach_cli.specs.Calls.{joined_in, joined_view, value_after, TakesDashed, TakesOwn, TakesWord};
+ghost use Rattle.mach_cli.specs.Calls.{call_view, empty_call, kind_at, word_kind, AddsWord, AreUntaken, IsRequest, Requests, TakesValue};
+ghost use Rattle.mach_cli.specs.Calls.{joined_in, joined_view, is_shared, untaken_by, value_after, what_is_missing, TakesDashed, TakesOwn, TakesWord};
 ghost use Rattle.mach_cli.specs.CallWords.{word_text};
 
 use crate::color::Color;
-use crate::cpu::{Arch, Cpu};
+use crate::cpu::Cpu;
 use crate::hexadecimal::{address_in, cputype_in};
 use crate::misuse::Misuse;
 use crate::named::Others;
 use crate::options::{Format, Options, OwnOptions};
 use crate::word::{NoText, Word};
+use goblin_mach::names::Arch;
 use std::alloc::{AllocError, Allocator};
 
 /// The arguments of a call, after the program's name and the options.
@@ -36,13 +37,22 @@ pub struct Call<'a, A: Allocator, O> {
     pub others: Others<'a, A>,
 }
 
+/// A text that a program has about itself.
+#[derive(Clone, Copy)]
+pub enum Asked {
+    /// `-h`: the usage.
+    Usage,
+    /// `--help`: what the program is for, and each of its words and options.
+    Help,
+    /// `--version`: its name and version.
+    Version,
+}
+
 /// What the arguments of a call request.
 #[derive(Drop)]
 pub enum Request<'a, A: Allocator, O> {
-    /// `--help`: print the usage.
-    Help,
-    /// `--version`: print the version.
-    Version,
+    /// A text about the program.
+    Asks(Asked),
     /// A run of the program, with its arguments.
     Call(Call<'a, A, O>),
     /// Nothing, because of this misuse.
@@ -65,8 +75,8 @@ enum Valued {
 enum Kind {
     // `--`: no argument after it is an option.
     Plain,
-    Help,
-    Version,
+    // An option that asks for a text about the program.
+    Asks(Asked),
     // `-0`: names in lists end with NUL.
     Nul,
     // An option that selects a form.
@@ -94,8 +104,9 @@ fn kind_of(word: &str, options: Options) -> Kind
 {
     match word {
         "--" => Kind::Plain,
-        "-h" | "--help" => Kind::Help,
-        "--version" => Kind::Version,
+        "-h" => Kind::Asks(Asked::Usage),
+        "--help" => Kind::Asks(Asked::Help),
+        "--version" => Kind::Asks(Asked::Version),
         "-0" if options.has_files => Kind::Nul,
         "--json" if options.has_json => Kind::Form(Format::Json),
         "--quiet" if options.has_quiet => Kind::Form(Format::Quiet),
@@ -111,6 +122,13 @@ fn kind_of(word: &str, options: Options) -> Kind
     }
 }
 
+/// Whether a program with these options has a shared one of this name.
+pub fn is_shared(name: &str, options: Options) -> bool
+    ensures { result ≡ is_shared options name.now }
+{
+    !matches!(kind_of(name, options), Kind::Other | Kind::Own)
+}
+
 // Returns the kind of an argument that is no option's value. After `--` it is no option.
 fn kind_at(is_plain: bool, word: &str, options: Options) -> Kind
     ensures { result ≡ kind_at is_plain options word.now }
@@ -124,7 +142,9 @@ fn kind_at(is_plain: bool, word: &str, options: Options) -> Kind
 
 impl Valued {
     // Returns what is missing if no value follows.
-    fn missing(self) -> &'static str {
+    fn missing(self) -> &'static str
+        ensures { result.now ≡ what_is_missing self }
+    {
         match self {
             Valued::Limit => "number after --limit",
             Valued::Arch => "NAME after --arch",
@@ -171,6 +191,7 @@ impl<'a, A: Allocator, O: OwnOptions> Call<'a, A, O> {
     fn take(&mut self, option: Valued, word: &'a str) -> Result<(), Untaken<'a>>
         ensures taken { OnOk result (TakesValue option word.now (call_view self.old) (call_view self.new)) }
         ensures untaken { IfErr result (AreUntaken (TakesValue option word.now (call_view self.old))) }
+        ensures reason { IfErr result (λ reason. reason ≡ untaken_by option word.entry) }
     {
         match option {
             Valued::Limit => match word.parse::<usize>() {
@@ -307,7 +328,7 @@ fn read<'a, A: Allocator, O: OwnOptions>(
     words: &'a [Word],
 ) -> Result<Request<'a, A, O>, Untaken<'a>>
     ensures request { IfOk result (IsRequest O.taken options (call_view call.entry) words.now) }
-    ensures untaken { IfErr result (AreUntaken (Selects O.taken options None (call_view call.entry) words.now)) }
+    ensures untaken { IfErr result (AreUntaken (Requests O.taken options None (call_view call.entry) words.now)) }
 {
     let mut before: Option<Valued> = None;
     let mut is_plain = false;
@@ -321,8 +342,7 @@ fn read<'a, A: Allocator, O: OwnOptions>(
         }
         match kind_at(is_plain, word.as_str(), options) {
             Kind::Plain => is_plain = true,
-            Kind::Help => return Ok(Request::Help),
-            Kind::Version => return Ok(Request::Version),
+            Kind::Asks(asked) => return Ok(Request::Asks(asked)),
             Kind::Nul => call.others.ends_with_nul = true,
             Kind::Form(format) => call.format = format,
             Kind::Valued(option) => before = Some(option),

@@ -1,14 +1,16 @@
 //! Names on one line, and bytes as hexadecimal digits.
 
-ghost use Rattle.std.specs.Prelude.{false, ◌≡◌, ◌<◌, Some, flat_map, OnOk};
+ghost use Rattle.std.specs.Prelude.{◌≡◌, ◌<◌, Some, flat_map, OnOk};
 ghost use Rattle.std.specs.Int.{is_in_range};
-ghost use Rattle.std.specs.Fmt.{digit_glyph, WritesOnOk};
+ghost use Rattle.std.specs.List.{list_all};
+ghost use Rattle.std.specs.Fmt.{WritesOnOk};
 ghost use Rattle.std.specs.Io.KnownBytes.{Appends};
 ghost use Rattle.mach_cli.specs.Escapes.{byte_in, escape_len, escape_of, escape_text, escaped_bytes, escaped_text, hidden_char, hidden_len};
 ghost use Rattle.mach_cli.specs.Escapes.{char_of_four, char_of_three, char_of_two, hides_four, hides_three, hides_two, is_hidden, is_quoted, is_tail};
-ghost use Rattle.mach_cli.specs.Escapes.{json_escape, written};
+ghost use Rattle.mach_cli.specs.Escapes.{is_visible, json_escape, written};
 ghost use Rattle.mach_cli.specs.SignatureNames.{bytes_text};
 
+use crate::digits::digit;
 use std::fmt::{Display, Formatter};
 use std::io::Write;
 use std::{fmt, io};
@@ -39,6 +41,21 @@ impl Display for EscapedBytes<'_> {
     }
 }
 
+// A text as it is written in a style.
+#[derive(Clone, Copy)]
+pub(crate) struct Written<'a> {
+    pub style: Style,
+    pub text: &'a str,
+}
+
+impl Display for Written<'_> {
+    ghost output = { λ t. Some (written t.style t.text.now) };
+
+    fn fmt<W: fmt::Write>(&self, f: &mut Formatter<W>) -> fmt::Result {
+        write_escaped(f, self.style, self.text)
+    }
+}
+
 // How a text is written.
 #[derive(Clone, Copy)]
 pub(crate) enum Style {
@@ -48,12 +65,40 @@ pub(crate) enum Style {
     Json,
 }
 
-// Writes a text. Runs of unescaped bytes are written whole.
+// Writes a text: at once if no byte of it needs a look at a whole character.
 pub(crate) fn write_escaped<W: fmt::Write>(
     f: &mut Formatter<W>,
     style: Style,
     text: &str,
 ) -> fmt::Result
+    ensures { WritesOnOk W.write_str_gives f.old result (written style text.now) f.new }
+{
+    if are_visible(style, text.as_bytes()) {
+        return f.write_str(text);
+    }
+    write_runs(f, style, text)
+}
+
+// Whether all bytes are visible ASCII and none is escaped. It looks at each, so that many are looked at at once.
+fn are_visible(style: Style, bytes: &[u8]) -> bool
+    ensures { result ≡ list_all (is_visible style) bytes.now }
+{
+    let mut are_visible = true;
+    'bytes: for byte in bytes {
+        are_visible &= is_visible(style, *byte);
+    }
+    are_visible
+}
+
+// Whether a byte is visible ASCII that isn't escaped.
+fn is_visible(style: Style, byte: u8) -> bool
+    ensures { result ≡ is_visible style byte }
+{
+    (0x20 <= byte && byte <= 0x7e) && !is_quoted(style, byte)
+}
+
+// Writes a text. Runs of unescaped bytes are written whole.
+fn write_runs<W: fmt::Write>(f: &mut Formatter<W>, style: Style, text: &str) -> fmt::Result
     ensures { WritesOnOk W.write_str_gives f.old result (written style text.now) f.new }
 {
     let bytes = text.as_bytes();
@@ -260,18 +305,6 @@ fn hidden_char(bytes: &[u8]) -> u32
     }
 }
 
-// Returns the hexadecimal digit of a number.
-fn digit(number: u8) -> u8
-    requires { number < 16 }
-    ensures { result ≡ digit_glyph false number }
-{
-    if number < 10 {
-        b'0' + number
-    } else {
-        b'a' + (number - 10)
-    }
-}
-
 // Writes the escape of a byte at once: this takes a third of the time of `{:02x}`.
 fn write_byte<W: fmt::Write>(f: &mut Formatter<W>, byte: u8) -> fmt::Result
     ensures { WritesOnOk W.write_str_gives f.old result (escape_text byte) f.new }
@@ -304,12 +337,22 @@ fn write_chunks<W: fmt::Write>(f: &mut Formatter<W>, bytes: &[u8]) -> fmt::Resul
     Ok(())
 }
 
+// Prints a text as it is written in a style: at once if no byte of it needs a look at a whole character.
+pub(crate) fn print_written<O: Write>(style: Style, text: &str, out: &mut O) -> io::Result<()>
+    ensures { OnOk result (Appends (O.contents out.old) (O.contents out.new) (written style text.now)) }
+{
+    if are_visible(style, text.as_bytes()) {
+        return out.write_all(text.as_bytes());
+    }
+    let text = Written { style, text };
+    write!(out, "{text}")
+}
+
 /// Prints a name on one line, as `Escaped` writes it.
 pub fn print_escaped<O: Write>(name: &str, out: &mut O) -> io::Result<()>
     ensures { OnOk result (Appends (O.contents out.old) (O.contents out.new) (escaped_text name.now)) }
 {
-    let name = Escaped(name);
-    write!(out, "{name}")
+    print_written(Style::Name, name, out)
 }
 
 /// Prints bytes, two digits each.

@@ -1,11 +1,13 @@
 //! What is wrong with the arguments of a call.
 
+ghost use Rattle.std.specs.Prelude.{◌≡◌};
+ghost use Rattle.mach_cli.specs.Misuses.{unknown_in};
+ghost use Rattle.mach_dyld.specs.Exports.{text_in};
+
 use crate::escaped::Escaped;
 use crate::word::NoText;
-use std::alloc::{AllocError, Allocator};
 use std::fmt;
 use std::fmt::{Display, Formatter, Write};
-use strsim::osa_distance;
 
 /// What is wrong with the arguments of a call.
 #[derive(Clone, Copy)]
@@ -51,41 +53,13 @@ impl Display for Misuse<'_> {
 }
 
 impl<'a> Misuse<'a> {
-    // Returns the unknown word, if that is the misuse.
-    fn word(&self) -> Option<&'a str> {
+    /// Returns the unknown word, if that is the misuse.
+    pub fn unknown(&self) -> Option<&'a str>
+        ensures { text_in result ≡ unknown_in self.now }
+    {
         match self {
             Misuse::UnknownOption(word) | Misuse::UnknownWord(word) => Some(word),
             _ => None,
         }
     }
-
-    /// Returns the known word that was probably meant, if one is similar.
-    pub fn meant<A: Allocator + Clone>(
-        &self,
-        alloc: A,
-        known: &[&'static str],
-    ) -> Result<Option<&'static str>, AllocError> {
-        match self.word() {
-            Some(word) => closest(alloc, word, known),
-            None => Ok(None),
-        }
-    }
-}
-
-// Returns the known word that takes the fewest edits to reach from a word, if these are no more than two; the first of several.
-fn closest<A: Allocator + Clone>(
-    alloc: A,
-    word: &str,
-    known: &[&'static str],
-) -> Result<Option<&'static str>, AllocError> {
-    let mut found = None;
-    let mut fewest = 3;
-    'known: for other in known {
-        let edits = osa_distance(alloc.clone()?, word, other)?;
-        if edits < fewest {
-            fewest = edits;
-            found = Some(*other);
-        }
-    }
-    Ok(found)
 }

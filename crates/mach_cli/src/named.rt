@@ -1,6 +1,6 @@
 //! The files that a call names other than by an argument that is text.
 
-ghost use Rattle.std.specs.Prelude.{◌≡◌, ◌<◌, ◌∷◌, [], length, IfOk, IfSome, IfNone};
+ghost use Rattle.std.specs.Prelude.{◌≡◌, ◌<◌, ◌&&◌, ◌==◌, ◌∷◌, [], length, IfOk, IfSome, IfNone};
 ghost use Rattle.mach_base.specs.Text.{texts};
 ghost use Rattle.mach_cli.specs.Listed.{are_several, listed_names, name_end};
 
@@ -21,7 +21,9 @@ pub struct Others<'a, A: Allocator> {
 
 impl<A: Allocator> Others<'_, A> {
     /// Whether there are none.
-    pub fn is_empty(&self) -> bool {
+    pub fn is_empty(&self) -> bool
+        ensures { result ≡ ((length self.now.lists.items == 0) && (length self.now.no_texts.items == 0)) }
+    {
         self.lists.is_empty() && self.no_texts.is_empty()
     }
 

@@ -1,13 +1,17 @@
 //! A program's call: its arguments and its files.
 
-ghost use Rattle.std.specs.Prelude.{◌≡◌, None, IfErr, IfOk, drop};
-ghost use Rattle.mach_cli.specs.Calls.{Selects, call_view, empty_call};
+ghost use Rattle.std.specs.Prelude.{◌≡◌, IfErr, IfOk, drop, false, true};
+ghost use Rattle.mach_dyld.specs.Exports.{text_in};
+ghost use Rattle.mach_cli.specs.Calls.{call_view, is_json, AsksFor, Selects};
 ghost use Rattle.mach_cli.specs.FileTitles.{IsUnreadStatus};
+ghost use Rattle.mach_cli.specs.Outputs.{is_colouring, painter_in};
+ghost use Rattle.mach_cli.specs.ProgramTexts.{program_text};
 ghost use Rattle.mach_cli.specs.Statuses.{IsStatus};
 
-use crate::call::{Call, Request, understand};
+use crate::call::{Asked, Call, Request, understand};
 use crate::color::Color;
 use crate::complaint::{Complaint, Trouble};
+use crate::flag::Help;
 use crate::label::Label;
 use crate::misuse::Misuse;
 use crate::names::Names;
@@ -27,14 +31,20 @@ use std::{fs, io};
 pub struct Program {
     /// Its name, the prefix of its complaints.
     pub name: &'static str,
-    /// Its usage, which `--help` prints.
+    /// What it is for, in lines of at most 80 columns, as all that follows.
+    pub about: &'static str,
+    /// Its usage, which `-h` prints.
     pub usage: &'static str,
     /// What `--version` prints.
     pub version: &'static str,
     /// The shared options that it has.
     pub options: Options,
-    /// The words that it knows: its options and its commands.
-    pub known: &'static [&'static str],
+    /// Its words that are no options, a line each: the word, and in column 28 what it does.
+    pub words: &'static str,
+    /// Its own options, a line each. A shared option may have a line here, too, if it does something else in this program.
+    pub flags: &'static str,
+    /// Some calls, a line each.
+    pub examples: &'static str,
 }
 
 /// Standard output: coloured or not, without control characters if it is a terminal, and with titles.
@@ -60,12 +70,12 @@ impl Program {
         own: O,
         words: &'a [Word],
     ) -> Result<Call<'a, Global, O>, u8>
-        ensures selected { IfOk result (λ call. Selects O.taken self.now.options None (empty_call own) (drop 1 words.now) (call_view call)) }
+        ensures selected { IfOk result (λ call. Selects O.taken self.now.options own (drop 1 words.now) (call_view call)) }
+        ensures answered { IfErr result (λ status. status ≡ 0 → (asked : Asked) × AsksFor O.taken self.now.options own (drop 1 words.now) asked) }
         ensures unread { IfErr result IsStatus }
     {
         match understand(&rt.alloc(), self.options, own, after_first(words)) {
-            Ok(Request::Help) => Err(self.say(rt, self.usage)),
-            Ok(Request::Version) => Err(self.say(rt, self.version)),
+            Ok(Request::Asks(asked)) => Err(self.answer(rt, asked)),
             Ok(Request::Call(call)) => Ok(call),
             Ok(Request::Nothing(misuse)) => Err(self.bad_usage(rt, misuse)),
             Err(AllocError) => Err(self.out_of_memory(rt)),
@@ -80,7 +90,10 @@ impl Program {
         color: Color,
         format: Format,
     ) -> Result<Output<'r>, u8>
-        ensures { IfErr result (λ status. status ≡ 1) }
+        ensures status { IfErr result (λ status. status ≡ 1) }
+        ensures json { is_json format ≡ true → IfOk result (λ out. is_colouring (painter_in out) ≡ false) }
+        ensures never { color ≡ Color.Never → IfOk result (λ out. is_colouring (painter_in out) ≡ false) }
+        ensures always { color ≡ Color.Always → is_json format ≡ false → IfOk result (λ out. is_colouring (painter_in out) ≡ true) }
     {
         let painted = Painted::new(io::writer(rt), color.is_for(rt, format));
         let inner = ForTerminal::new(painted, rt.stdout().is_terminal());
@@ -88,6 +101,31 @@ impl Program {
             return Err(self.out_of_memory(rt));
         };
         Ok(out)
+    }
+
+    // Returns a text about the program, if it is written down as it is printed.
+    fn text_of(&self, asked: Asked) -> Option<&'static str>
+        ensures { text_in result ≡ program_text self.now asked }
+    {
+        match asked {
+            Asked::Usage => Some(self.usage),
+            Asked::Version => Some(self.version),
+            Asked::Help => None,
+        }
+    }
+
+    // Prints a text about the program, and returns the exit status.
+    fn answer(&self, rt: &HostRuntime, asked: Asked) -> u8
+        ensures { IsStatus result }
+    {
+        if let Some(text) = self.text_of(asked) {
+            return self.say(rt, text);
+        }
+        let help = Help(*self);
+        match format!(in rt.alloc(); "{help}") {
+            Ok(text) => self.say(rt, text.as_str()),
+            Err(AllocError) => self.out_of_memory(rt),
+        }
     }
 
     // Prints a text, and returns the exit status.
@@ -134,7 +172,7 @@ impl Program {
     pub fn bad_usage(&self, rt: &HostRuntime, misuse: Misuse<'_>) -> u8
         ensures { result ≡ 2 }
     {
-        let meant = misuse.meant(rt.alloc(), self.known).unwrap_or(None);
+        let meant = self.meant(rt.alloc(), misuse);
         self.complain(rt, Trouble::Misused(misuse, meant));
         let _ = rt.eprint(self.usage);
         2

@@ -1,125 +1,34 @@
-//! The segments of an image with their sections, and the names of those that hold an address.
+//! The printed names of the segments and of the sections that hold addresses.
 
-ghost use Rattle.std.specs.Prelude.{◌≡◌, map};
+ghost use Rattle.std.specs.Prelude.{◌≡◌};
+ghost use Rattle.mach_base.specs.Items.{read_as};
+ghost use Rattle.mach_dyld.specs.Exports.{text_in};
+ghost use Rattle.goblin_mach.specs.AllStretches.{part_view};
+ghost use Rattle.mach_cli.specs.SectionNames.{section_name_with, shown_name, stretch_name};
 
-use crate::memory::{name_of, room_after, sections_within};
-use crate::stretches::{Stretch, Stretches};
-use goblin_mach::segment::Segment;
-use goblin_mach::{MachO, laws};
-use std::alloc::{AllocError, Allocator};
+use goblin_mach::{SegmentStretches, Stretch, read_text};
+use std::alloc::Allocator;
 
-/// A segment with its sections.
-#[derive(Drop)]
-pub struct SegmentStretches<A: Allocator> {
-    memory: Stretch,
-    // None if one of them can't be read, or if there is no room for them.
-    sections: Stretches<A>,
+/// Returns the printed name of the first section of a segment that holds an address, if one does.
+pub fn section_name_with<A: Allocator>(segment: &SegmentStretches<A>, address: u64) -> Option<&str>
+    ensures { text_in result ≡ section_name_with address (part_view segment.now).sections }
+{
+    Some(stretch_name(segment.section_with(address)?))
 }
 
-/// The segments of an image with their sections, in order.
-#[derive(Drop)]
-pub struct AllStretches<A: Allocator> {
-    items: Vec<SegmentStretches<A>, A>,
-    memory: Stretches<A>,
-    ghost same: { map (λ p. p.memory) items.items ≡ memory.items.items },
+/// Returns the printed name of a segment or a section.
+pub fn stretch_name(stretch: &Stretch) -> &str
+    ensures { result.now ≡ stretch_name stretch.now }
+{
+    shown_name(read_text(&stretch.name, 0))
 }
 
-impl<A: Allocator + Clone> SegmentStretches<A> {
-    ghost use Rattle.std.specs.Prelude.{IfOk};
-    ghost use Rattle.mach_parts.specs.Segment.{segment_view};
-    ghost use Rattle.mach_cli.specs.AllStretches.{memory_of_segment, sections_within};
-
-    // Returns a segment with its sections, if there is room for them.
-    fn of(alloc: &A, segment: &Segment<'_>, room: usize) -> Result<Self, AllocError>
-        ensures memory { IfOk result (λ p. p.memory ≡ memory_of_segment (segment_view segment.now)) }
-        ensures sections { IfOk result (λ p. p.sections.items.items ≡ sections_within room (segment_view segment.now)) }
-    {
-        let sections = sections_within(alloc, segment, room)?;
-        Ok(SegmentStretches {
-            memory: Stretch {
-                name: segment.segname,
-                start: segment.vmaddr,
-                size: segment.vmsize,
-            },
-            sections: Stretches::of(alloc, sections)?,
-        })
-    }
-}
-
-impl<A: Allocator> SegmentStretches<A> {
-    ghost use Rattle.mach_dyld.specs.Exports.{text_in};
-    ghost use Rattle.mach_cli.specs.AllStretches.{part_view, section_with, stretch_name};
-
-    /// Returns the printed name of the segment.
-    pub fn name(&self) -> &str
-        ensures { result.now ≡ stretch_name (part_view self.now).memory }
-    {
-        name_of(&self.memory)
-    }
-
-    /// Returns the printed name of the first section that holds an address, if one does.
-    pub fn section_with(&self, address: u64) -> Option<&str>
-        ensures { text_in result ≡ section_with address (part_view self.now).sections }
-    {
-        let number = self.sections.first_with(address)?;
-        let section = self.sections.items.get(number)?;
-        Some(name_of(section))
-    }
-}
-
-impl<B: Allocator + Clone> AllStretches<B> {
-    ghost use Rattle.std.specs.Prelude.{ℕ, List, length, IfOk};
-    ghost use Rattle.mach_parts.specs.Segment.{SegmentView, segment_view};
-    ghost use Rattle.goblin_mach.specs.Facts.{HasSegments};
-    ghost use Rattle.goblin_mach.specs.OpenImage.{IsImage};
-    ghost use Rattle.mach_cli.specs.AllStretches.{parts_of, parts_view};
-
-    /// Returns the segments of an image with their sections, in order. Of these there are no more than the image has bytes.
-    pub fn of_image<A: Allocator>(alloc: &B, image: &MachO<'_, A>) -> Result<Self, AllocError>
-        ensures { (bytes : List ℕ) (o : ℕ) → IsImage bytes o image.now → IfOk result (λ parts. (segments : List SegmentView)
-            × HasSegments bytes o segments × (parts_view parts ≡ parts_of (length bytes) segments)) }
-    {
-        laws::segments_of_image(image);
-        let room = image.bytes().len();
-        Self::of_segments(alloc, image.segments.as_slice(), room)
-    }
-
-    // Returns some segments with their sections, in order.
-    fn of_segments(alloc: &B, segments: &[Segment<'_>], room: usize) -> Result<Self, AllocError>
-        ensures { IfOk result (λ parts. parts_view parts ≡ parts_of room (map segment_view segments.now)) }
-    {
-        let mut items = Vec::new(alloc.clone()?);
-        let mut memory = Vec::new(alloc.clone()?);
-        let mut left = room;
-        'segments: for segment in segments {
-            let part = SegmentStretches::of(alloc, segment, left)?;
-            memory.push(part.memory)?;
-            items.push(part)?;
-            left = room_after(left, segment);
-        }
-        let memory = Stretches::of(alloc, memory)?;
-        Ok(AllStretches { items, memory })
-    }
-}
-
-impl<A: Allocator> AllStretches<A> {
-    ghost use Rattle.std.specs.Prelude.{option_map, slice_get};
-    ghost use Rattle.mach_cli.specs.AllStretches.{part_view, part_with, parts_view};
-
-    /// Returns the segment with a number.
-    pub fn get(&self, number: usize) -> Option<&SegmentStretches<A>>
-        ensures { option_map (λ p. part_view p.now) result ≡ slice_get (parts_view self.now) number }
-    {
-        self.items.get(number)
-    }
-
-    /// Returns the first segment that holds an address, if one does.
-    pub fn first_with(&self, address: u64) -> Option<&SegmentStretches<A>>
-        ensures { option_map (λ p. part_view p.now) result ≡ part_with address (parts_view self.now) }
-    {
-        match self.memory.first_with(address) {
-            Some(number) => self.get(number),
-            None => None,
-        }
+// Returns a name as it is printed.
+fn shown_name(name: goblin_mach::Result<&str>) -> &str
+    ensures { result.now ≡ shown_name (read_as (λ text. text.now) name.entry) }
+{
+    match name {
+        Ok(text) if !text.is_empty() => text,
+        _ => "-",
     }
 }

@@ -10,3 +10,7 @@ pub mod Versions
 pub mod Contents
 pub mod Platform
 pub mod FixupChains
+pub mod CpuNames
+pub mod NumberNames
+pub mod FlagNames
+pub mod Values

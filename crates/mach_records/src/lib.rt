@@ -4,15 +4,19 @@
 mod command_names;
 pub mod constants;
 mod contents;
+mod cpu_names;
 mod fixup_chains;
+mod flag_names;
 mod libraries;
 mod linkedit;
 mod load_command_header;
 mod modules;
+mod number_names;
 mod numbers;
 mod segments;
 mod symbol_tables;
 mod umbrellas;
+mod values;
 mod versions;
 
 pub use crate::constants::cputype;
@@ -32,6 +36,12 @@ pub use crate::command_names::{
     LC_THREAD, LC_TWOLEVEL_HINTS, LC_UNIXTHREAD, LC_UUID, LC_VERSION_MIN_IPHONEOS,
     LC_VERSION_MIN_MACOSX, LC_VERSION_MIN_TVOS, LC_VERSION_MIN_WATCHOS, cmd_to_str, command_name,
 };
+
+// The names of other numbers, and numbers as texts.
+pub use crate::cpu_names::{Arch, cpu_name};
+pub use crate::flag_names::{FlagName, code_flags, executable_flags};
+pub use crate::number_names::{platform_name, rights_name, tool_name};
+pub use crate::values::{SourceVersionText, UuidText, VersionText};
 
 // Records, and the size of each in bytes.
 pub use crate::contents::{

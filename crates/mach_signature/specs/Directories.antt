@@ -175,6 +175,10 @@ special_slot_bytes d k = slot_bytes d (d.head.hash_offset - k * d.head.hash_size
 abbrev pub special_slot_of : Directory → ℕ → Option (List ℕ)
 special_slot_of d k = if nat_le 1 k && nat_le k d.head.n_special_slots then Some (special_slot_bytes d k) else None
 
--- the directory's own hash, by which callers identify it
+-- the whole hash of the directory
+abbrev pub full_cdhash_of : Directory → List ℕ
+full_cdhash_of d = hash_of d.hash d.bytes
+
+-- its first 20 bytes, by which callers identify the directory
 abbrev pub cdhash_of : Directory → List ℕ
 cdhash_of d = take 20 (hash_of d.hash d.bytes)

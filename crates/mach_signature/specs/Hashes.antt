@@ -3,6 +3,8 @@ use Rattle.std.specs.Prelude.{ℕ, List, take, Option, Some, None, ◌==◌, if�
 use Rattle.sha1.specs.Sha1.{sha1}
 use Rattle.sha2.specs.Sha256.{sha256}
 use Rattle.sha2.specs.Sha512.{sha384}
+use Rattle.mach_signature.specs.declared.hash.HashBytes.{HashBytes}
+use Rattle.mach_signature.specs.declared.hash.HashBytes.TheVariants.{Of20, Of32, Of48}
 use Rattle.mach_signature.specs.declared.hash.HashType.{HashType}
 use Rattle.mach_signature.specs.declared.hash.HashType.TheVariants.{Sha1, Sha256, Sha256Truncated, Sha384}
 
@@ -28,6 +30,12 @@ hash_rank Sha1 = 1
 hash_rank Sha256Truncated = 2
 hash_rank Sha256 = 3
 hash_rank Sha384 = 4
+
+-- the bytes of a hash
+abbrev pub hash_bytes : HashBytes → List ℕ
+hash_bytes (Of20 bytes) = bytes
+hash_bytes (Of32 bytes) = bytes
+hash_bytes (Of48 bytes) = bytes
 
 -- the hash of some bytes
 unfoldable pub hash_of : HashType → List ℕ → List ℕ

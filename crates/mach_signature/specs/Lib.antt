@@ -15,6 +15,9 @@ pub mod SignWords
 pub mod Slots
 pub mod SpecialFaults
 pub mod SpecialFaultViews
+pub mod Special
+pub mod SpecialViews
+pub mod Kinds
 pub mod SuperBlob
 pub mod SignedImages
 pub mod SignedFacts

@@ -7,7 +7,7 @@ ghost use Rattle.mach_base.specs.Answer.{Reads};
 ghost use Rattle.mach_base.specs.Number.{number, room_at};
 ghost use Rattle.mach_signature.specs.Directories as defined;
 
-use crate::hash::HashType;
+use crate::hash::{HashBytes, HashType};
 use crate::records::{DirectoryHead, ExecutableSegment, RuntimeFields};
 use crate::slots::MAGIC_DIRECTORY;
 use mach_base::{
@@ -190,7 +190,8 @@ fn name_at(bytes: &[u8], place: Option<u32>) -> Result<Option<&str>>
 impl<'a> CodeDirectory<'a> {
     ghost use Rattle.mach_signature.specs.DirectoryViews.{directory_view, slot_read};
     ghost use Rattle.mach_signature.specs.Directories.{directory_at, identifier_of, team_of, code_limit_of, page_count_of, page_start, page_end};
-    ghost use Rattle.mach_signature.specs.Directories.{code_slot_of, special_slot_of, cdhash_of};
+    ghost use Rattle.mach_signature.specs.Directories.{code_slot_of, special_slot_of, cdhash_of, full_cdhash_of};
+    ghost use Rattle.mach_signature.specs.Hashes.{hash_bytes};
 
     /// Reads a blob as a code directory.
     ///
@@ -337,5 +338,12 @@ impl<'a> CodeDirectory<'a> {
         ensures { result ≡ cdhash_of (directory_view self.now) }
     {
         self.hash.first_bytes(self.bytes)
+    }
+
+    /// Returns the directory's whole hash. It begins with `cdhash`.
+    pub fn full_cdhash(&self) -> HashBytes
+        ensures { hash_bytes result ≡ full_cdhash_of (directory_view self.now) }
+    {
+        self.hash.digest(self.bytes)
     }
 }

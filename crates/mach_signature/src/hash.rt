@@ -3,7 +3,7 @@
 ghost use Rattle.std.specs.Prelude.{◌≡◌, take};
 ghost use Rattle.std.specs.Str.{bytes_eq};
 ghost use Rattle.mach_signature.specs.Hashes as defined;
-ghost use Rattle.mach_signature.specs.Hashes.{hash_of};
+ghost use Rattle.mach_signature.specs.Hashes.{hash_bytes, hash_of};
 
 use mach_base::array_at;
 use sha1::Sha1;
@@ -20,6 +20,30 @@ pub enum HashType {
     Sha256Truncated,
     /// SHA-384: 48 bytes.
     Sha384,
+}
+
+/// All bytes of a hash.
+#[derive(Clone, Copy)]
+pub enum HashBytes {
+    /// Those of SHA-1, or of SHA-256 cut to 20 bytes.
+    Of20([u8; 20]),
+    /// Those of SHA-256.
+    Of32([u8; 32]),
+    /// Those of SHA-384.
+    Of48([u8; 48]),
+}
+
+impl HashBytes {
+    /// Returns the bytes.
+    pub fn as_slice(&self) -> &[u8]
+        ensures { result.now ≡ hash_bytes self.now }
+    {
+        match self {
+            HashBytes::Of20(bytes) => bytes,
+            HashBytes::Of32(bytes) => bytes,
+            HashBytes::Of48(bytes) => bytes,
+        }
+    }
 }
 
 impl HashType {
@@ -82,6 +106,22 @@ impl HashType {
                 let digest = Sha384::digest(bytes);
                 digest.as_slice() == slot
             }
+        }
+    }
+
+    /// Returns the hash of some bytes.
+    #[tactic(auto, unfolding(crate::specs::Hashes::hash_of))]
+    pub fn digest(self, bytes: &[u8]) -> HashBytes
+        ensures { hash_bytes result ≡ hash_of self bytes.now }
+    {
+        match self {
+            HashType::Sha1 => HashBytes::Of20(Sha1::digest(bytes)),
+            HashType::Sha256 => HashBytes::Of32(Sha256::digest(bytes)),
+            HashType::Sha256Truncated => {
+                let digest = Sha256::digest(bytes);
+                HashBytes::Of20(array_at(&digest, 0))
+            }
+            HashType::Sha384 => HashBytes::Of48(Sha384::digest(bytes)),
         }
     }
 

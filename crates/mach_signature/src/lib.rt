@@ -9,10 +9,12 @@ mod directory;
 mod fault;
 mod faults;
 mod hash;
+mod kind;
 mod numbered;
 mod records;
 mod signature;
 mod slots;
+mod special;
 mod special_faults;
 
 // The signature of an image: where its command places it, and its faults.
@@ -35,8 +37,10 @@ pub use crate::directories::Directories;
 pub use crate::directory::CodeDirectory;
 pub use crate::fault::{CodeFault, DirectoryFault, SignatureFault, SlotName, SpecialFault};
 pub use crate::faults::{SignatureFaults, SignedBytes, code_signature, signature_faults};
-pub use crate::hash::HashType;
+pub use crate::hash::{HashBytes, HashType};
+pub use crate::kind::{Cms, Kind, cms_of};
 pub use crate::records::{DirectoryHead, ExecutableSegment, RuntimeFields};
 pub use crate::signature::{Blob, Blobs, CodeSignature};
 pub use crate::slots::{SlotMagic, is_directory_slot, slot_magic};
+pub use crate::special::{SlotState, SpecialSlot, shown_slot};
 pub use crate::special_faults::{SpecialFaults, component, is_unsealing};

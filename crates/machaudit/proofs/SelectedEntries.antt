@@ -8,7 +8,7 @@ use Rattle.mach_parts.specs.declared.fat.FatArch.{FatArch}
 use Rattle.mach_cli.specs.Cpus.{is_selected}
 use Rattle.mach_cli.specs.declared.cpu.Cpu.{Cpu}
 use Rattle.machaudit.specs.Selected.{EntriesFail, IsFailing, SoundBefore}
-use Rattle.machaudit.specs.Sound.{IsSound}
+use Rattle.mach_audit.specs.Sound.{IsSound}
 
 by_size : (m n k : ℕ) → k ≡ max m n → ((leb m n ≡ true) × (m ≤ n)) ⊎ ((leb m n ≡ false) × (n < m)) → (k ≡ m) ⊎ (k ≡ n)
 by_size m n k is (inl h) = inr (omega (arith, is, h.1))

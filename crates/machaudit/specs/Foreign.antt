@@ -15,21 +15,6 @@ use Rattle.mach_cli.specs.Names.{names_text}
 use Rattle.mach_cli.specs.Refusals.{complaint}
 use Rattle.mach_cli.specs.declared.entries.OutOfFile.{OutOfFile}
 use Rattle.goblin_mach.specs.declared.first_bytes.Foreign.{Foreign}
-use Rattle.machaudit.specs.declared.report.ImageReport.{ImageReport}
-use Rattle.machaudit.specs.declared.report.ImageReport.TheVariants as images
-use Rattle.machaudit.specs.declared.report.Report.{Report}
-use Rattle.machaudit.specs.declared.report.Report.TheVariants.{Image, Fat}
-
--- the error of an image that opens in no mode
-abbrev pub image_refusal : {A : Type 0} → ImageReport A → Option Error
-image_refusal (images.Opens parts) = None
-image_refusal (images.OpensLossily e parts) = None
-image_refusal (images.Refused e) = Some e
-
--- the error for which a whole file is refused, if it is: that of its image, or that of a fat file's table that can't be read
-abbrev pub refusal_in : {A : Type 0} → Report A → Option Error
-refusal_in (Image r) = image_refusal r
-refusal_in (Fat r) = r.table
 
 -- the line with the kind of a file, if the kind is known
 abbrev pub kind_message : (file : List ℕ) → Option Foreign → List ℕ

@@ -2,6 +2,7 @@
 use Rattle.std.specs.Prelude.{◌≡◌, ◌<◌, ◌⊎◌, ℕ, List, length, true, false, Some, slice_get}
 use Rattle.mach_base.specs.Answer.{ErrorMeets}
 use Rattle.mach_base.specs.declared.error.Error.{Error}
+use Rattle.mach_parts.specs.ArchForms.{arch_form_32}
 use Rattle.mach_parts.specs.Fat.{part_of}
 use Rattle.mach_parts.specs.declared.fat.FatArch.{FatArch}
 use Rattle.goblin_mach.specs.FatFile.{FatFile}
@@ -11,8 +12,8 @@ use Rattle.mach_cli.specs.Shown.{IsFatTable}
 use Rattle.mach_cli.specs.ShownCalls.{Showing}
 use Rattle.mach_cli.specs.declared.cpu.Cpu.{Cpu}
 use Rattle.mach_cli.specs.declared.cpu.Cpu.TheVariants.{Any}
-use Rattle.machaudit.specs.Overlaid.{AreOverlaid}
-use Rattle.machaudit.specs.Sound.{IsSound, IsLong}
+use Rattle.mach_audit.specs.Overlaid.{AreOverlaid}
+use Rattle.mach_audit.specs.Sound.{IsSound, IsLong}
 use Rattle.machaudit.specs.declared.selection.Selected.{Selected}
 use Rattle.machaudit.specs.declared.selection.Selected.TheVariants.{Whole, Other, Entries}
 
@@ -60,7 +61,8 @@ pub data IsSoundFor (cpu : Cpu) (bytes : List ℕ) : Type 0 where
 pub data FailsFor (cpu : Cpu) (limit : ℕ) (bytes : List ℕ) : Type 0 where
   failing_file : SelectsWhole cpu bytes → IsFailing limit bytes → FailsFor cpu limit bytes
   failing_entry : (file : FatFile) (archs : List FatArch) → IsFatTable bytes file archs → EntriesFail cpu limit bytes archs → FailsFor cpu limit bytes
-  overlaid_entries : (file : FatFile) (archs : List FatArch) → IsFatTable bytes file archs → AreOverlaid cpu bytes archs → FailsFor cpu limit bytes
+  overlaid_entries : (file : FatFile) (archs : List FatArch) → IsFatTable bytes file archs → AreOverlaid arch_form_32 (is_selected cpu) bytes archs
+      → FailsFor cpu limit bytes
 
 -- Nothing of the file is for the cpu.
 pub data MissesAll (cpu : Cpu) (bytes : List ℕ) : Type 0 where

@@ -8,12 +8,13 @@ pub mod part;
 
 use crate::json::fault::NoImage;
 use crate::json::part::{Unreported, write_layout, write_part, write_parts};
-use crate::report::{ArchiveReport, EntryReport, FatReport, ImageReport, MemberReport, Report};
 use crate::source::{Source, refusal_of_image};
-use crate::verdict::Verdict;
 use goblin_mach::describe;
 use goblin_mach::fat::FatArch;
 use mach_archive::Member;
+use mach_audit::{
+    ArchiveReport, EntryReport, FatReport, ImageReport, MemberReport, Report, Soundness,
+};
 use mach_cli::entries::{OutOfFile, outside_at};
 use mach_cli::{JsonString, Refusal, comma_before};
 use std::alloc::Allocator;
@@ -248,15 +249,15 @@ fn kind_of<A: Allocator>(report: &Report<'_, A>) -> &'static str
 }
 
 // Whether no fault was found, but a list has more items than the limit.
-fn is_unended(verdict: Verdict) -> bool
+fn is_unended(verdict: Soundness) -> bool
     ensures { result ≡ defined.is_unended verdict }
 {
-    matches!(verdict, Verdict::Unended)
+    matches!(verdict, Soundness::Unended)
 }
 
 // Whether the file is sound.
-fn is_sound(verdict: Verdict) -> bool
+fn is_sound(verdict: Soundness) -> bool
     ensures { result ≡ defined.is_sound verdict }
 {
-    matches!(verdict, Verdict::Sound)
+    matches!(verdict, Soundness::Sound)
 }

@@ -1,6 +1,6 @@
 //! Faults of layout, the first ten of each rule.
 
-use crate::tally::MOST_REPORTED;
+use mach_audit::MOST_REPORTED;
 use mach_layout::{LayoutFault, Rule};
 use std::io;
 use std::io::Write;

@@ -1,17 +1,9 @@
 //! Reports what is wrong with Mach-O files: whether each opens, and each part of it that can't be read or lies where it must not.
 #![tactic(auto)]
 
-// The audit of a file: whether it opens, and each part that can't be read or lies where it must not.
-mod audit;
+// What is audited of each file.
 mod audits;
-mod items;
-mod lists;
-mod overlaid;
-mod report;
 mod selection;
-mod signed;
-mod tally;
-mod verdict;
 
 // What is printed of the audit.
 mod json;
@@ -31,7 +23,11 @@ use std::process::ExitCode;
 
 const PROGRAM: Program = Program {
     name: NAME,
-    usage: "usage: machaudit [--quiet | --json] [--limit N] [--arch NAME | --cputype 0xN] [--names FILE] [-0] [--color WHEN] FILE..
+    about: "machaudit reports whether Mach-O files are sound, and each fault of those that
+are not.
+",
+    usage: "usage: machaudit [--quiet | --json] [--limit N] [--arch NAME | --cputype 0xN]
+                 [--names FILE] [-0] [--color WHEN] FILE..
        machaudit -h | --help | --version
 ",
     version: "machaudit 0.3.0\n",
@@ -39,17 +35,15 @@ const PROGRAM: Program = Program {
         has_quiet: true,
         ..mach_cli::Options::OF_IMAGES
     },
-    known: &[
-        "--arch",
-        "--color",
-        "--cputype",
-        "--help",
-        "--json",
-        "--limit",
-        "--names",
-        "--quiet",
-        "--version",
-    ],
+    words: "",
+    flags: "      --limit N             check at most N items per list
+      --names FILE          also audit the files that FILE lists, one per line
+      --arch NAME           audit only images for this cpu
+      --cputype 0xN         audit only images with this cputype
+",
+    examples: "  machaudit prog                                  a report on one file
+  find DIR -type f | machaudit --quiet --names -  a line for each file there
+",
 };
 
 fn main(rt: HostRuntime) -> ExitCode {

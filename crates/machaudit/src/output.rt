@@ -3,23 +3,22 @@
 ghost use Rattle.std.specs.Prelude.{◌≡◌, ◌≤◌, ◌⊎◌, [], codes, IfOk, OnOk};
 ghost use Rattle.std.specs.Io.Buffered.{writer_buffer, writer_contents};
 ghost use Rattle.std.specs.Io.KnownBytes.{Appends};
-ghost use Rattle.machaudit.specs.Sound.{IsSound, IsLong};
+ghost use Rattle.mach_audit.specs.Sound.{IsSound, IsLong};
 ghost use Rattle.mach_cli.specs.Escapes.{IsOneLine};
 ghost use Rattle.mach_cli.specs.Foreigners.{refused_kind};
-ghost use Rattle.machaudit.specs.Foreign.{SaysForeign, foreign_message, kind_message, message_about, refusal_in};
-ghost use Rattle.machaudit.specs.Quiet.{quiet_line};
-ghost use Rattle.machaudit.specs.Verdicts.{Judges, status_of, verdict_of_report};
+ghost use Rattle.mach_audit.specs.Report.{refusal_in};
+ghost use Rattle.machaudit.specs.Foreign.{SaysForeign, foreign_message, kind_message, message_about};
+ghost use Rattle.machaudit.specs.Quiet.{quiet_line, status_of};
+ghost use Rattle.mach_audit.specs.Verdicts.{Judges, verdict_of_report};
 ghost use Rattle.mach_cli.specs.declared.options.Format.TheVariants as formats;
-ghost use Rattle.machaudit.specs.declared.verdict.Verdict.{Verdict};
+ghost use Rattle.mach_audit.specs.declared.verdict.Soundness.{Soundness};
 
-use crate::audit::audit;
 use crate::json::print_object;
 use crate::options::Options;
-use crate::report::Report;
 use crate::source::Source;
 use crate::text::print_report;
-use crate::verdict::Verdict;
 use goblin_mach::Error;
+use mach_audit::{Report, Soundness, audit_mach};
 use mach_cli::entries::OutOfFile;
 use mach_cli::{Escaped, Format, Label, Names, Refusal, ShowFailure, complain, refused_kind};
 use std::alloc::Allocator;
@@ -58,13 +57,13 @@ pub fn run<A: Allocator + Clone, W: Write + Drop, B: Allocator, E: Write>(
     ensures sound { IfOk result (λ status. status ≡ 0 → IsSound bytes.now) }
     ensures whole { IfOk result (λ status. status ≡ 0 → IsLong call.entry.options.limit bytes.now → ⊥) }
     ensures faulty { IfOk result (λ status. status ≡ 1 → (IsSound bytes.now → ⊥) ⊎ IsLong call.entry.options.limit bytes.now) }
-    ensures quiet { IfOk result (λ status. call.entry.options.format ≡ formats.Quiet → (v : Verdict) × (status ≡ status_of v)
+    ensures quiet { IfOk result (λ status. call.entry.options.format ≡ formats.Quiet → (v : Soundness) × (status ≡ status_of v)
         × Judges (IsSound bytes.now) (IsLong call.entry.options.limit bytes.now) v × IsOneLine (quiet_line call.entry.name.now v)
         × Appends (writer_contents W.contents out.old) (writer_contents W.contents out.new) (quiet_line call.entry.name.now v)) }
     ensures flushed { OnOk result (writer_buffer out.new ≡ []) }
     ensures message { OnOk result (SaysForeign call.entry.outside call.entry.name.now bytes.now (E.contents err.old) (E.contents err.new)) }
 {
-    let Ok(report) = audit(alloc, bytes, call.options.limit) else {
+    let Ok(report) = audit_mach(alloc, bytes, call.options.limit) else {
         return Err(ShowFailure::Memory);
     };
     write_report(call, bytes, &report, out)?;
@@ -133,12 +132,12 @@ pub fn refuse<E: Write>(file: &str, refusal: Refusal<'_>, err: &mut E) -> u8
 }
 
 // Returns the exit status of a verdict.
-fn status(verdict: Verdict) -> u8
+fn status(verdict: Soundness) -> u8
     ensures { result ≡ status_of verdict }
 {
     match verdict {
-        Verdict::Sound => 0,
-        Verdict::Unended | Verdict::Faulty => 1,
+        Soundness::Sound => 0,
+        Soundness::Unended | Soundness::Faulty => 1,
     }
 }
 
@@ -185,7 +184,7 @@ fn print<A: Allocator, O: Write>(
 }
 
 // Prints the line of a file: whether it is sound.
-fn print_verdict<O: Write>(name: &str, verdict: Verdict, out: &mut O) -> io::Result<()>
+fn print_verdict<O: Write>(name: &str, verdict: Soundness, out: &mut O) -> io::Result<()>
     ensures { OnOk result (Appends (O.contents out.old) (O.contents out.new) (quiet_line name.now verdict)) }
 {
     let name = Escaped(name);

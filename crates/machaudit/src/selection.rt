@@ -4,18 +4,32 @@ ghost use Rattle.std.specs.Prelude.{◌≡◌, ◌≤◌, ◌⊎◌, List, ℕ, 
 ghost use Rattle.goblin_mach.specs.FatFile.{fat_file_in, file_view};
 ghost use Rattle.goblin_mach.specs.File.{HasFatMagic};
 ghost use Rattle.machaudit.specs.Selected.{EntriesFail, EntriesSound, IsFailing, FailsFor, IsSelectedFor, IsSoundFor, MissesAll};
-ghost use Rattle.machaudit.specs.Overlaid.{AreOverlaid};
-ghost use Rattle.machaudit.specs.Sound.{IsSound};
+ghost use Rattle.mach_cli.specs.Cpus.{is_selected};
+ghost use Rattle.mach_parts.specs.ArchForms.{arch_form_32};
+ghost use Rattle.mach_audit.specs.Overlaid.{AreOverlaid};
+ghost use Rattle.mach_audit.specs.Sound.{IsSound};
 ghost use Rattle.goblin_mach.specs.OpenImage.{IsImage};
 
 use crate::output::{Call, NAME, refuse, run};
-use crate::overlaid::entries_within;
 use goblin_mach::fat::FatArch;
 use goblin_mach::{Error, Mach, MachO, MultiArch};
+use mach_audit::overlaid::{Selection, entries_within};
 use mach_cli::entries::outside_at;
 use mach_cli::{Cpu, Names, Refusal, ShowFailure};
 use std::alloc::{AllocError, Allocator};
 use std::io::{BufWriter, Write};
+
+// Selects the entries for a cpu.
+#[derive(Clone, Copy)]
+struct ForCpu(Cpu);
+
+impl Selection<FatArch> for ForCpu {
+    ghost selects = { λ selection. is_selected selection.0 };
+
+    fn takes_entry(&self, arch: &FatArch) -> bool {
+        self.0.takes_entry(arch)
+    }
+}
 
 // What of a file is selected.
 #[derive(Drop)]
@@ -104,6 +118,7 @@ fn selected_entries<A: Allocator + Clone>(
 
 // Audits the entries for a cpu among these records, as long as they have no more bytes together than the file, and returns the
 // worst status.
+#[tactic(auto, using(mach_audit::proofs::GoneOver::overlaid_by))]
 fn run_within<A: Allocator + Clone, W: Write + Drop, B: Allocator, E: Write>(
     alloc: &A,
     cpu: Cpu,
@@ -115,9 +130,10 @@ fn run_within<A: Allocator + Clone, W: Write + Drop, B: Allocator, E: Write>(
 ) -> Result<u8, ShowFailure>
     ensures bounds { IfOk result (λ status. status ≤ 1) }
     ensures sound { IfOk result (λ status. status ≡ 0 → EntriesSound cpu bytes.now archs.now) }
-    ensures faulty { IfOk result (λ status. status ≡ 1 → EntriesFail cpu call.entry.options.limit bytes.now archs.now ⊎ AreOverlaid cpu bytes.now archs.now) }
+    ensures faulty { IfOk result (λ status. status ≡ 1 → EntriesFail cpu call.entry.options.limit bytes.now archs.now
+        ⊎ AreOverlaid arch_form_32 (is_selected cpu) bytes.now archs.now) }
 {
-    let most = entries_within(cpu, archs.len(), bytes, archs);
+    let most = entries_within(&ForCpu(cpu), archs.len(), bytes, archs);
     let status = run_entries(alloc, cpu, call, bytes, &archs[..most], out, err)?;
     if most < archs.len() {
         return Ok(left_out(call.name, archs.len() - most, err));

@@ -4,8 +4,8 @@ ghost use Rattle.std.specs.Prelude.{◌≡◌, Some};
 ghost use Rattle.machaudit.specs.JsonFaults.{code_kind, code_place, directory_kind, directory_place, special_kind, special_place};
 ghost use Rattle.machaudit.specs.JsonFaults.{signature_kind, signature_place, signature_slot};
 
-use crate::report::{SignaturePart, SignatureReport};
 use goblin_mach::describe;
+use mach_audit::{SignaturePart, SignatureReport};
 use mach_signature::{CodeFault, DirectoryFault, SignatureFault, SlotName, SpecialFault};
 use std::alloc::Allocator;
 use std::io::Write;

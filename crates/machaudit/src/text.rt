@@ -3,57 +3,23 @@
 ghost use Rattle.std.specs.Prelude.{◌≡◌};
 
 use crate::layout_text::print_layout;
-use crate::report::{
-    ArchiveReport, EntryReport, FatReport, FaultPlace, Finding, ImageReport, ItemList,
-    MemberReport, PartReport, Parts, Records, Report,
-};
 use crate::signature_text::print_signature;
 use crate::source::{Source, refusal_of_image};
-use crate::verdict::Verdict;
 use goblin_mach::describe;
 use goblin_mach::fat::FatArch;
 use mach_archive::Member;
+use mach_audit::{
+    ArchiveReport, EntryReport, FatReport, ImageReport, ItemFault, MemberReport, PartReport, Parts,
+    Records, Report,
+};
 use mach_cli::entries::{OutOfFile, outside_at};
 use mach_cli::{Escaped, Refusal};
 use std::alloc::Allocator;
+use std::io;
 use std::io::Write;
-use std::{fmt, io};
-
-impl fmt::Display for FaultPlace {
-    fn fmt<W: fmt::Write>(&self, f: &mut fmt::Formatter<W>) -> fmt::Result {
-        let index = self.index;
-        match self.list {
-            ItemList::Sections(segment) => write!(f, "segment {segment}, section {index}"),
-            ItemList::Relocations(segment, section) => write!(
-                f,
-                "segment {segment}, section {section}, relocation {index}"
-            ),
-            ItemList::Symbols => write!(f, "symbol {index}"),
-            ItemList::Exports => write!(f, "export {index}"),
-            ItemList::Imports => write!(f, "import {index}"),
-            ItemList::Fixups => write!(f, "fixup {index}"),
-            ItemList::Bindings => write!(f, "binding {index}"),
-        }
-    }
-}
-
-impl fmt::Display for Verdict {
-    ghost use Rattle.std.specs.Prelude.{Some};
-    ghost use Rattle.machaudit.specs.Quiet.{verdict_words};
-
-    ghost output = { λ verdict. Some (verdict_words verdict) };
-
-    fn fmt<W: fmt::Write>(&self, f: &mut fmt::Formatter<W>) -> fmt::Result {
-        match self {
-            Verdict::Sound => write!(f, "sound"),
-            Verdict::Unended => write!(f, "not sound: limit met"),
-            Verdict::Faulty => write!(f, "not sound"),
-        }
-    }
-}
 
 // Prints the reported faults of a part.
-fn print_findings<O: Write>(name: &str, reported: &[Finding], out: &mut O) -> io::Result<()> {
+fn print_findings<O: Write>(name: &str, reported: &[ItemFault], out: &mut O) -> io::Result<()> {
     'reported: for finding in reported {
         let place = finding.place;
         writeln!(out, "  {name}: {place}: {}", describe(&finding.error))?;

@@ -3,3 +3,4 @@ pub mod Items
 pub mod Reported
 pub mod Verified
 pub mod MembersReported
+mod Placed

@@ -17,3 +17,4 @@ pub mod ArchiveLines
 pub mod Written
 pub mod ShownFiles
 pub mod Outside
+pub mod Commands

@@ -6,7 +6,7 @@ use Rattle.std.specs.Io.KnownBytes.{Appends}
 use Rattle.mach_fat_writer.specs.EntriesRead.{slice_of}
 use Rattle.mach_fat_writer.specs.declared.entry_record.EntryRecord.{EntryRecord}
 use Rattle.mach_parts.specs.Cpu.{kind_of_cpu}
-use Rattle.mach_cli.specs.Cpus.{arch_rows, cpu_named}
+use Rattle.mach_records.specs.CpuNames.{arch_rows, cpu_named}
 use Rattle.mach_cli.specs.Fields.{FieldView, field_of, fields_line, fields_object, hex, line_field, number, object_field, optional_text, text}
 use Rattle.mach_cli.specs.Fields.{value_in_object, wide_field}
 use Rattle.mach_cli.specs.JsonArrays.{comma_before}

@@ -5,7 +5,8 @@ use Rattle.mach_fat_writer.specs.EntriesRead.{slice_of}
 use Rattle.mach_fat_writer.specs.Unfit.{Unfit, if_fit}
 use Rattle.mach_fat_writer.specs.declared.entry_record.EntryRecord.{EntryRecord}
 use Rattle.mach_cli.specs.Calls.{IsCputype}
-use Rattle.mach_cli.specs.Cpus.{arch_named, arch_row_of, arch_rows, is_of_cpu}
+use Rattle.mach_records.specs.CpuNames.{arch_named, arch_row_of, arch_rows}
+use Rattle.mach_cli.specs.Cpus.{is_of_cpu}
 use Rattle.mach_cli.specs.declared.cpu.Cpu.{Cpu}
 use Rattle.mach_cli.specs.declared.cpu.Cpu.TheVariants.{Any, Number, Arch}
 

@@ -6,15 +6,18 @@ ghost use Rattle.std.specs.Io.KnownBytes.{Appends, Keeps};
 ghost use Rattle.mach_fat_writer.specs.Changes.{indexed_entry_in};
 ghost use Rattle.mach_cli.specs.Bounds.{most_items};
 ghost use Rattle.mach_cli.specs.Statuses.{IsStatus};
-ghost use Rattle.machfat.specs.Entry.{TookLast, WasWritten};
+ghost use Rattle.machfat.specs.Entry.{TookInAll, WasWritten};
 ghost use Rattle.machfat.specs.Lines.{ReportsList};
 ghost use Rattle.machfat.specs.ListedFiles.{listed_file_in};
 ghost use Rattle.machfat.specs.Refusals.{Refuses, RefusesFile, IsRefusal, refusal_line};
+ghost use Rattle.machfat.specs.Same.{IsOther};
 ghost use Rattle.machfat.specs.declared.refusal.WriteFailure.TheVariants as failures;
 ghost use Rattle.machfat.specs.declared.refusal.Refusal.{Refusal};
 
+use crate::created::WholeFile;
 use crate::entry::{entry_bytes, list};
-use crate::new_file::place_file;
+use crate::made::one_file;
+use crate::new_file::{is_same_file, place_file};
 use crate::permissions::NewMode;
 use crate::refusal::{Refusal, WriteFailure};
 use mach_cli::output::failed;
@@ -80,7 +83,8 @@ pub fn reported<W: Write + Drop, B: Allocator, E: Write>(
 /// Writes an entry to a file.
 ///
 /// Returns the exit status. It is 0 if the file was written. It is 1 if there is no such entry, or an allocation is refused, and
-/// then `err` has a line that says why. It is 2 or 141 if the file can't be written. The file is written whole, or unchanged.
+/// then `err` has a line that says why. It is 2 if the fat file is the target. It is 2 or 141 if the target can't be written. The
+/// target is written whole, or unchanged.
 pub fn run_extract<R: Files, E: Write>(
     files: &R,
     alloc: Global,
@@ -92,9 +96,13 @@ pub fn run_extract<R: Files, E: Write>(
 ) -> u8
     ensures status { IsStatus result }
     ensures extracted { result ≡ 0 → (entry : List ℕ) × (indexed_entry_in bytes.now index ≡ Ok entry) × WasWritten R.File.contents entry }
+    ensures apart { result ≡ 0 → IsOther file.now target.now }
     ensures refused { result ≡ 1 → (refusal : Refusal) × Refuses bytes.now (indexed_entry_in bytes.now index) refusal
         × Appends (E.contents err.old) (E.contents err.new) (refusal_line file.now refusal) }
 {
+    if is_same_file(files, file, target) {
+        return one_file(file, target, err);
+    }
     let mode = NewMode::as_file(files, file);
     status(
         extract(files, alloc, mode, bytes, index, target),
@@ -112,9 +120,9 @@ fn extract<R: Files>(
     bytes: &[u8],
     index: usize,
     target: &str,
-) -> Result<R::File, WriteFailure>
-    ensures extracted { IfOk result (λ file. (entry : List ℕ) × (indexed_entry_in bytes.now index ≡ Ok entry)
-        × TookLast R.File.contents file entry) }
+) -> Result<WholeFile<R::File>, WriteFailure>
+    ensures extracted { IfOk result (λ whole. (entry : List ℕ) × (indexed_entry_in bytes.now index ≡ Ok entry)
+        × TookInAll R.File.contents whole entry) }
     ensures refused { IfErr result (IsRefusal (Refuses bytes.now (indexed_entry_in bytes.now index))) }
 {
     let entry = entry_bytes(alloc, bytes, index)?;

@@ -11,6 +11,7 @@
 // Fat files: taken apart, written, and listed.
 mod arguments;
 mod commands;
+mod created;
 mod entry;
 mod image_kind;
 mod json;
@@ -30,10 +31,13 @@ mod verify;
 // The list of an archive: a line for each member, and one for each symbol of its index.
 mod archive;
 
-ghost use Rattle.std.specs.Prelude.{◌≡◌, if◌then◌else◌, Ok, Err, IfErr, IfOk, OnOk};
+ghost use Rattle.std.specs.Prelude.{◌≡◌, [], if◌then◌else◌, option_map, slice_get, Ok, Err, Some, IfErr, IfOk, OnOk};
 ghost use Rattle.mach_cli.specs.FileTitles.{IsUnreadStatus};
 ghost use Rattle.mach_cli.specs.Statuses.{IsStatus, IsUnwritten};
 ghost use Rattle.mach_cli.specs.declared.cpu.Cpu.{Cpu};
+ghost use Rattle.mach_cli.specs.declared.misuse.Misuse.TheVariants as misuses;
+ghost use Rattle.mach_cli.specs.declared.word.NoText.{NoText};
+ghost use Rattle.machfat.specs.Commands.{misplaced_option, option_in, shown_named};
 ghost use Rattle.machfat.specs.OfCpu.{SaysCpu};
 ghost use Rattle.machfat.specs.Same.{IsOther};
 ghost use Rattle.machfat.specs.ShownFiles.{AreShownWhole, ShowsSelectedFiles};
@@ -43,8 +47,7 @@ use arguments::{WIDE, Width};
 use commands::{NAME, run_extract};
 use mach_cli::{Call, Cpu, Files, Misuse, Options, Others, Program, Titled};
 use mach_fat_writer::Form;
-use made::{one_file, run_create, run_remove, run_replace};
-use new_file::is_same_file;
+use made::{run_create, run_remove, run_replace};
 use shown::{Selected, Shown};
 use std::alloc::{AllocError, Global};
 use std::io::{BufWriter, Write};
@@ -56,7 +59,11 @@ const DEFAULT_LIMIT: usize = 10_000_000;
 
 const PROGRAM: Program = Program {
     name: NAME,
-    usage: "usage: machfat list [--json] [--limit N] [--names FILE] [-0] [--color WHEN] FILE..
+    about: "machfat reads and writes fat files, with offsets of 32 or 64 bits, and lists
+archives. The first word selects what it does.
+",
+    usage: "usage: machfat list [--json] [--limit N] [--names FILE] [-0] [--color WHEN]
+                    FILE..
        machfat extract FILE INDEX|CPU OUT
        machfat thin FILE CPU OUT
        machfat members [--limit N] [--names FILE] [-0] [--color WHEN] FILE..
@@ -74,28 +81,24 @@ CPU: a name, as arm64, or 0xCPUTYPE
         has_json: true,
         ..Options::NONE
     },
-    known: &[
-        "list",
-        "extract",
-        "thin",
-        "members",
-        "create",
-        "replace",
-        "remove",
-        "verify",
-        "--color",
-        "--help",
-        "--json",
-        "--limit",
-        "--names",
-        "--version",
-    ],
-};
-
-// The same for the commands that write a file, which have no options.
-const FOR_WRITES: Program = Program {
-    known: &[],
-    ..PROGRAM
+    words: "  list                      print the entries of a fat file
+  extract                   write the bytes of one entry, by its number or cpu
+  thin                      write the bytes of the first entry for a cpu
+  members                   print the members and symbols of archives
+  create                    build a fat file from files
+  replace                   replace the entries for the cpu of a file
+  remove                    remove one entry
+  verify                    print the layout faults of a fat file
+",
+    flags: "      --json                with list: print one JSON object per file
+      --limit N             with list, members, verify: N lines per file at most
+      --names FILE          with list, members, verify: read the files in FILE
+      --fat64               with create: use 64-bit offsets and sizes
+",
+    examples: "  machfat list prog            the entries of a fat file
+  machfat thin prog arm64 out  the image for one cpu, in a file
+  machfat create prog x86 arm  a fat file of two images
+",
 };
 
 fn main(rt: HostRuntime) -> ExitCode {
@@ -115,14 +118,16 @@ fn start(rt: &HostRuntime) -> Result<u8, u8> {
     match shown_by(word, call.format.is_json()) {
         Some(shown) if !is_wide => show_files(rt, &call, shown, given),
         _ => match misplaced(&call, word) {
-            Some(misuse) => Err(FOR_WRITES.bad_usage(rt, misuse)),
+            Some(misuse) => Err(PROGRAM.bad_usage(rt, misuse)),
             None => write_file(rt, word, form_for(is_wide), given),
         },
     }
 }
 
 // Returns what is shown of files, if the word is a command that shows them.
-fn shown_by(word: &str, is_json: bool) -> Option<Shown> {
+fn shown_by(word: &str, is_json: bool) -> Option<Shown>
+    ensures { result ≡ shown_named word.now is_json }
+{
     match word {
         "list" if is_json => Some(Shown::Object),
         "list" => Some(Shown::Records),
@@ -132,24 +137,38 @@ fn shown_by(word: &str, is_json: bool) -> Option<Shown> {
     }
 }
 
-// Returns an option of a call that its command, which writes a file, doesn't have, or a word that is no text, if there is one.
-fn misplaced<'a>(call: &Call<'a, Global, Width>, command: &str) -> Option<Misuse<'a>> {
+// Returns what the words of a command that writes a file have and may not have, if there is such: a word that is no text, or else
+// an option.
+fn misplaced<'a>(call: &Call<'a, Global, Width>, command: &str) -> Option<Misuse<'a>>
+    ensures word { (word : NoText) → slice_get call.now.others.no_texts.items 0 ≡ Some word → result ≡ Some (misuses.NoText word) }
+    ensures option { call.now.others.no_texts.items ≡ [] → option_in result ≡ misplaced_option call.now command.now }
+{
     if let Some(word) = call.others.no_texts.first() {
         return Some(Misuse::NoText(*word));
     }
-    let options = [
-        (call.format.is_json(), "--json"),
-        (call.own.is_wide && command != "create", WIDE),
-        (call.limit.is_some(), "--limit"),
-        (!call.others.lists.is_empty(), "--names"),
-        (call.others.ends_with_nul, "-0"),
-    ];
-    for (is_given, option) in options {
-        if is_given {
-            return Some(Misuse::UnknownOption(option));
-        }
+    match misplaced_option(call, command) {
+        Some(option) => Some(Misuse::UnknownOption(option)),
+        None => None,
     }
-    None
+}
+
+// Returns the first option of a call that its command, which writes a file, doesn't have, if there is one.
+fn misplaced_option(call: &Call<'_, Global, Width>, command: &str) -> Option<&'static str>
+    ensures { option_map (λ option. option.now) result ≡ misplaced_option call.now command.now }
+{
+    if call.format.is_json() {
+        Some("--json")
+    } else if call.own.is_wide && command != "create" {
+        Some(WIDE)
+    } else if call.limit.is_some() {
+        Some("--limit")
+    } else if !call.others.lists.is_empty() {
+        Some("--names")
+    } else if call.others.ends_with_nul {
+        Some("-0")
+    } else {
+        None
+    }
 }
 
 // Runs a command that writes a file. Except for `create`, the first of the given names is that of a fat file, and the last is
@@ -276,11 +295,12 @@ fn extract_entry(rt: &HostRuntime, given: &[&str]) -> Result<u8, u8> {
     }
 }
 
-// Writes the entry with an index.
-fn extract_at(rt: &HostRuntime, file: &str, index: usize, target: &str) -> Result<u8, u8> {
-    if is_same_file(rt, file, target) {
-        return Err(one_file(file, target, &mut rt.stderr()));
-    }
+// Writes the entry with an index, and returns the exit status. The error is the status if the file can't be read.
+fn extract_at(rt: &HostRuntime, file: &str, index: usize, target: &str) -> Result<u8, u8>
+    ensures status { IfOk result (λ status. IsStatus status) }
+    ensures apart { result ≡ Ok 0 → IsOther file.now target.now }
+    ensures unread { IfErr result IsUnreadStatus }
+{
     let bytes = PROGRAM.read(rt, file)?;
     Ok(run_extract(
         rt,

@@ -1,15 +1,15 @@
 //! Writes bytes as a file of their own.
 
-ghost use Rattle.std.specs.Prelude.{◌≡◌, Option, MatchOption, OnOk, IfOk, IfErr};
-ghost use Rattle.machfat.specs.Entry.{Took, TookLast};
+ghost use Rattle.std.specs.Prelude.{◌≡◌, Option, MatchOption, IfOk, IfErr};
+ghost use Rattle.machfat.specs.Entry.{Took, TookInAll, as_created, as_written};
 ghost use Rattle.machfat.specs.Refusals.{IsRefusal, IsWant};
 ghost use Rattle.machfat.specs.Same.{is_one_file, is_one_node, AreOther, IsSame};
 
+use crate::created::{NewFile, WholeFile, create, fill};
 use crate::permissions::NewMode;
 use crate::refusal::WriteFailure;
 use std::alloc::Global;
-use std::fs::OpenFile;
-use std::io::{ErrorKind, Write};
+use std::io::ErrorKind;
 use std::os::unix::fs::MetadataExt;
 use std::rt::Files;
 use std::{fs, io};
@@ -84,16 +84,16 @@ pub fn place_file<R: Files>(
     mode: NewMode,
     bytes: &[u8],
     target: &str,
-) -> Result<R::File, WriteFailure>
-    ensures written { IfOk result (λ file. TookLast R.File.contents file bytes.now) }
+) -> Result<WholeFile<R::File>, WriteFailure>
+    ensures written { IfOk result (λ whole. TookInAll R.File.contents whole bytes.now) }
     ensures refused { IfErr result (IsRefusal IsWant) }
 {
     if !is_free(files, target) {
         return Err(taken());
     }
-    let (name, file) = new_file(files, alloc, mode, target)?;
-    match complete(files, mode, bytes, file, name.as_str(), target) {
-        Ok(file) => Ok(file),
+    let (name, new) = new_file(files, alloc, mode, target)?;
+    match complete(files, mode, bytes, new, name.as_str(), target) {
+        Ok(whole) => Ok(whole),
         Err(failure) => {
             let _ = fs::remove_file(files, name.as_str());
             Err(failure)
@@ -115,13 +115,13 @@ fn new_file<R: Files>(
     alloc: Global,
     mode: NewMode,
     path: &str,
-) -> Result<(String, R::File), WriteFailure>
+) -> Result<(String, NewFile<R::File>), WriteFailure>
     ensures { IfErr result (IsRefusal IsWant) }
 {
     for number in 0..NAMES {
         let name = format!(in alloc; "{path}.{number}.part")?;
-        match mode.create(files, name.as_str()) {
-            Ok(file) => return Ok((name, file)),
+        match create(files, mode, name.as_str()) {
+            Ok(new) => return Ok((name, new)),
             Err(error) if error.kind() == ErrorKind::AlreadyExists => {}
             Err(error) => return Err(WriteFailure::Unwritten(error)),
         }
@@ -136,31 +136,19 @@ fn taken() -> WriteFailure
     WriteFailure::Unwritten(io::Error::from(ErrorKind::AlreadyExists))
 }
 
-// Writes bytes to a file, and syncs it to the disk.
-fn fill<F: Write + OpenFile>(bytes: &[u8], file: &mut F) -> Result<(), WriteFailure>
-    ensures written { OnOk result (Took F.contents file.old file.new bytes.now) }
-    ensures refused { IfErr result (IsRefusal IsWant) }
-{
-    file.write_all(bytes)?;
-    file.flush()?;
-    file.sync_all()?;
-    Ok(())
-}
-
 // Gives a new file its permissions, writes bytes to it, and nothing else, and gives it the name of the target. Returns the file.
 fn complete<R: Files>(
     files: &R,
     mode: NewMode,
     bytes: &[u8],
-    mut file: R::File,
+    new: NewFile<R::File>,
     name: &str,
     target: &str,
-) -> Result<R::File, WriteFailure>
-    ensures written { IfOk result (λ filled. Took R.File.contents file filled bytes.now) }
+) -> Result<WholeFile<R::File>, WriteFailure>
+    ensures written { IfOk result (λ whole. Took R.File.contents (as_created new) (as_written whole) bytes.now) }
     ensures refused { IfErr result (IsRefusal IsWant) }
 {
-    mode.set(&file)?;
-    fill(bytes, &mut file)?;
+    let whole = fill(new, mode, bytes)?;
     fs::rename(files, name, target)?;
-    Ok(file)
+    Ok(whole)
 }

@@ -7,7 +7,8 @@ ghost use Rattle.mach_dyld.specs.Exports.{text_in};
 ghost use Rattle.machfat.specs.Lines.{cpu_fields, cpu_of_numbers, cpu_text, bytes_of_entry, line_end, place_fields, reached_units, record_fields};
 
 use crate::image_kind::image_words;
-use mach_cli::{Escaped, Field, FieldsForm, Value, cpu_name, entry_kind};
+use goblin_mach::names::cpu_name;
+use mach_cli::{Escaped, Field, FieldsForm, Value, entry_kind};
 use mach_fat_writer::EntryRecord;
 use std::fmt::{Display, Formatter};
 use std::io::Write;

@@ -5,19 +5,21 @@ ghost use Rattle.std.specs.Io.KnownBytes.{Appends};
 ghost use Rattle.mach_fat_writer.specs.Unfit.{AnswersAs};
 ghost use Rattle.mach_cli.specs.Statuses.{IsStatus};
 ghost use Rattle.mach_cli.specs.declared.cpu.Cpu.{Cpu};
-ghost use Rattle.machfat.specs.Entry.{TookLast, WasWritten};
+ghost use Rattle.machfat.specs.Entry.{TookInAll, WasWritten};
 ghost use Rattle.machfat.specs.OfCpu.{SaysCpu, cpu_entry_in, first_entry_for};
 ghost use Rattle.machfat.specs.Refusals.{IsRefusal, RefusesCpu, refusal_line};
 ghost use Rattle.machfat.specs.Same.{IsOther};
 ghost use Rattle.machfat.specs.declared.refusal.Refusal.{Refusal};
 
 use crate::commands::status;
+use crate::created::WholeFile;
 use crate::made::one_file;
 use crate::new_file::{is_same_file, place_file};
 use crate::outside::refused_entries;
 use crate::permissions::NewMode;
 use crate::refusal::{Refusal, WriteFailure};
-use mach_cli::{Arch, Cpu, cputype_in};
+use goblin_mach::names::Arch;
+use mach_cli::{Cpu, cputype_in};
 use mach_fat_writer::{EntryRecord, EntryRefusal, fat_records};
 use std::alloc::Global;
 use std::io::Write;
@@ -117,8 +119,8 @@ fn thin<R: Files>(
     bytes: &[u8],
     cpu: Cpu,
     target: &str,
-) -> Result<R::File, WriteFailure>
-    ensures thinned { IfOk result (λ file. (entry : List ℕ) × (cpu_entry_in bytes.now cpu ≡ Ok (Some entry)) × TookLast R.File.contents file entry) }
+) -> Result<WholeFile<R::File>, WriteFailure>
+    ensures thinned { IfOk result (λ whole. (entry : List ℕ) × (cpu_entry_in bytes.now cpu ≡ Ok (Some entry)) × TookInAll R.File.contents whole entry) }
     ensures refused { IfErr result (IsRefusal (RefusesCpu bytes.now (cpu_entry_in bytes.now cpu) cpu)) }
 {
     let entry = entry_of_cpu(alloc, bytes, cpu)?;

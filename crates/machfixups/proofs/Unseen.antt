@@ -9,7 +9,7 @@ use Rattle.mach_chained.specs.Pointers.{KindOfFixup, rebase, bind, value}
 use Rattle.mach_base.specs.Answer.{◌>>=◌}
 use Rattle.mach_dyld.specs.Rebases.{Rebase}
 use Rattle.mach_parts.specs.PointerSigning.{Auth}
-use Rattle.mach_cli.specs.AllStretches.{SegmentStretches}
+use Rattle.goblin_mach.specs.AllStretches.{SegmentStretches}
 use Rattle.machfixups.specs.KeptFixups.{keeps_fixup, keeps_kind, kept_fixups, kinds_in_lines, kinds_in_objects}
 use Rattle.machfixups.specs.Lists.{PointerLists}
 use Rattle.machfixups.specs.Rows.{Action, PointerRow, PointerRows, action_of, chain_rows, picked, row_by_segment, row_for_fixup, row_for_rebase}

@@ -6,7 +6,7 @@ use Rattle.mach_chained.specs.Header.{Fixups}
 use Rattle.goblin_mach.specs.Facts.{HasSegments, HasLibraries, HasChainedFixups}
 use Rattle.goblin_mach.specs.Image.{Opens}
 use Rattle.machfixups.specs.Lists.{PointerLists, HasPointerLists}
-use Rattle.mach_cli.specs.AllStretches.{parts_of}
+use Rattle.goblin_mach.specs.AllStretches.{parts_of}
 use Rattle.machfixups.specs.Headed.{headed}
 use Rattle.machfixups.specs.RowFields.{heading_line, lines_reported}
 use Rattle.machfixups.specs.Rows.{PointerRows, line_rows, readable_table, rows_in_order}

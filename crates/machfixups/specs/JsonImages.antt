@@ -8,7 +8,7 @@ use Rattle.goblin_mach.specs.Image.{Opens}
 use Rattle.mach_cli.specs.Fields.{fields_object}
 use Rattle.mach_cli.specs.JsonArrays.{AreListMembers, NamedRows}
 use Rattle.machfixups.specs.Lists.{PointerLists, HasPointerLists}
-use Rattle.mach_cli.specs.AllStretches.{parts_of}
+use Rattle.goblin_mach.specs.AllStretches.{parts_of}
 use Rattle.machfixups.specs.RowFields.{texts_reported}
 use Rattle.machfixups.specs.Rows.{PointerRow, PointerRows, object_rows, readable_table}
 use Rattle.mach_cli.specs.Shown.{ImageLines}

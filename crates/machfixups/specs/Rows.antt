@@ -23,7 +23,8 @@ use Rattle.machfixups.specs.Lists.{PointerLists}
 use Rattle.mach_cli.specs.Origins.{ordinal_of, origin_of, provider_name}
 use Rattle.machfixups.specs.StoredPointers.{PointerSource, raw_of}
 use Rattle.machfixups.specs.TargetSymbols.{PointerSymbol, target_symbol_option_view}
-use Rattle.mach_cli.specs.AllStretches.{SegmentStretches, part_with, section_with, stretch_name}
+use Rattle.goblin_mach.specs.AllStretches.{SegmentStretches, part_with}
+use Rattle.mach_cli.specs.SectionNames.{section_name_with, stretch_name}
 use Rattle.machfixups.specs.KeptFixups.{kept_fixups, kinds_in_lines, kinds_in_objects}
 use Rattle.machfixups.specs.declared.kept_fixups.KindsOfLists.{KindsOfLists}
 use Rattle.machfixups.specs.declared.kept_fixups.ShownKinds.{ShownKinds}
@@ -69,7 +70,7 @@ pub data PointerRow : Type 0 where
 -- the place of an address in a segment, if there is one
 abbrev pub place_in : Option SegmentStretches → ℕ → PointerPlace
 place_in None address = record { address = address; segment = None; section = None }
-place_in (Some p) address = record { address = address; segment = Some (stretch_name p.memory); section = section_with address p.sections }
+place_in (Some p) address = record { address = address; segment = Some (stretch_name p.memory); section = section_name_with address p.sections }
 
 -- the place of an address in the first segment that holds it, if one does
 abbrev pub place_by_address : List SegmentStretches → ℕ → PointerPlace

@@ -5,7 +5,7 @@ use Rattle.mach_base.specs.Text.{texts}
 use Rattle.mach_dyld.specs.BindingsLeft.{opcode_bindings_left}
 use Rattle.mach_dyld.specs.RebasesLeft.{opcode_rebases_left}
 use Rattle.mach_dyld.specs.WeakBindsLeft.{weak_binds_left}
-use Rattle.mach_cli.specs.AllStretches.{SegmentStretches, parts_view}
+use Rattle.goblin_mach.specs.AllStretches.{SegmentStretches, parts_view}
 use Rattle.machfixups.specs.KeptLeft.{kept_left}
 use Rattle.machfixups.specs.Rows.{PointerRow, PointerRows, row_for_rebase, row_for_binding, row_for_weak, row_for_fixup, fixups_table_view}
 use Rattle.machfixups.specs.StoredPointers.{source_option_view}

@@ -18,8 +18,8 @@ use crate::target_symbols::TargetSymbol;
 use goblin_mach::RebaseKind;
 use goblin_mach::chained_fixups::PointerAuth;
 use mach_cli::{
-    Escaped, Field, FieldsForm, Line, Value, diverse_by, diversity_by, has_auth, key_by,
-    rebase_type,
+    Field, FieldsForm, Line, Value, diverse_by, diversity_by, has_auth, key_by, print_escaped,
+    print_hexadecimal, rebase_type,
 };
 use std::io;
 use std::io::Write;
@@ -348,8 +348,10 @@ fn write_symbol<O: Write>(symbol: &Option<TargetSymbol<'_>>, out: &mut O) -> io:
 {
     match symbol {
         Some(symbol) => {
-            let (name, distance) = (Escaped(symbol.name), symbol.distance);
-            write!(out, " {name}+0x{distance:x}")
+            out.write_all(b" ")?;
+            print_escaped(symbol.name, out)?;
+            out.write_all(b"+")?;
+            print_hexadecimal(symbol.distance, out)
         }
         None => Ok(()),
     }

@@ -6,8 +6,8 @@ use crate::headed::Headed;
 use crate::lists::ImageRows;
 use crate::rows::Selection;
 use crate::target_symbols::TargetSymbols;
-use goblin_mach::MachO;
-use mach_cli::{AllStretches, ImageView, Outcome, ShowFailure, print_listing};
+use goblin_mach::{AllStretches, MachO};
+use mach_cli::{ImageView, Outcome, ShowFailure, print_listing};
 use std::alloc::Allocator;
 use std::io::Write;
 

@@ -6,8 +6,8 @@ use crate::lists::ImageRows;
 use crate::members::write_members;
 use crate::rows::Selection;
 use crate::target_symbols::TargetSymbols;
-use goblin_mach::MachO;
-use mach_cli::{AllStretches, ImageView, Outcome, ShowFailure};
+use goblin_mach::{AllStretches, MachO};
+use mach_cli::{ImageView, Outcome, ShowFailure};
 use std::alloc::Allocator;
 use std::io::Write;
 

@@ -62,29 +62,27 @@ use std::process::ExitCode;
 // How many lines of a file are printed if no limit is given.
 const DEFAULT_LIMIT: usize = 10_000_000;
 
-const USAGE: &str =
-    "usage: machfixups [--rebases] [--binds] [--weak] [--chains] [--json] [--limit N] \
-    [--arch NAME | --cputype 0xN] [--names FILE [-0]] [--color WHEN] FILE..\n       machfixups -h | --help | --version\n";
-
 const PROGRAM: Program = Program {
     name: "machfixups",
-    usage: USAGE,
+    about: "machfixups prints each place of Mach-O files that dyld changes, a line each: the
+rebases, the binds, the weak binds and the chained fixups.
+",
+    usage: "usage: machfixups [--rebases] [--binds] [--weak] [--chains] [--json] [--limit N]
+                  [--arch NAME | --cputype 0xN] [--names FILE [-0]]
+                  [--color WHEN] FILE..
+       machfixups -h | --help | --version
+",
     version: "machfixups 0.3.0\n",
     options: Options::OF_IMAGES,
-    known: &[
-        "--arch",
-        "--binds",
-        "--chains",
-        "--color",
-        "--cputype",
-        "--help",
-        "--json",
-        "--limit",
-        "--names",
-        "--rebases",
-        "--version",
-        "--weak",
-    ],
+    words: "",
+    flags: "      --rebases             print the rebases
+      --binds               print the binds
+      --weak                print the weak binds of the opcodes
+      --chains              print the chained fixups
+",
+    examples: "  machfixups prog                       all of these
+  machfixups --binds --arch arm64 prog  the binds of the image for one cpu
+",
 };
 
 fn main(rt: HostRuntime) -> ExitCode {

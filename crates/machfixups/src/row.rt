@@ -10,7 +10,7 @@ ghost use Rattle.mach_chained.specs.PointerViews.{kind_view};
 ghost use Rattle.mach_parts.specs.PointerSigning.{auth_option_view};
 ghost use Rattle.mach_chained.specs.Views.{import_view};
 ghost use Rattle.mach_chained.specs.WalkViews.{fixup_view, fixup_read};
-ghost use Rattle.mach_cli.specs.AllStretches.{part_with, part_view, parts_view};
+ghost use Rattle.goblin_mach.specs.AllStretches.{part_with, part_view, parts_view};
 ghost use Rattle.machfixups.specs.Rows.{place_by_address, place_in, target_by_kind, bind_of_binding, row_by_address, row_by_segment};
 ghost use Rattle.machfixups.specs.Rows.{import_in, action_of, bind_of_import, rebases_to, symbol_there};
 ghost use Rattle.machfixups.specs.Rows.{row_for_binding, row_for_rebase, row_for_weak, row_for_fixup, place_view, bind_view, action_view, row_view};
@@ -22,8 +22,10 @@ ghost use Rattle.machfixups.specs.TargetViews.{symbols_seen};
 use crate::stored_pointers::{StoredPointers, raw_of};
 use crate::target_symbols::{TargetSymbol, TargetSymbols};
 use goblin_mach::chained_fixups::{ChainedFixups, ChainedImport, Fixup, FixupKind, PointerAuth};
-use goblin_mach::{Binding, Error, Rebase, RebaseKind, Result, WeakBind};
-use mach_cli::{AllStretches, SegmentStretches, ordinal_of, origin_of, provider_name};
+use goblin_mach::{
+    AllStretches, Binding, Error, Rebase, RebaseKind, Result, SegmentStretches, WeakBind,
+};
+use mach_cli::{ordinal_of, origin_of, provider_name, section_name_with, stretch_name};
 use std::alloc::Allocator;
 
 /// An address.
@@ -90,8 +92,8 @@ fn place_in<'b, A: Allocator>(part: Option<&'b SegmentStretches<A>>, address: u6
     match part {
         Some(part) => Location {
             address,
-            segment: Some(part.name()),
-            section: part.section_with(address),
+            segment: Some(stretch_name(&part.memory)),
+            section: section_name_with(part, address),
         },
         None => Location {
             address,

@@ -2,7 +2,7 @@
 
 ghost use Rattle.std.specs.Prelude.{◌≡◌, ◌||◌};
 ghost use Rattle.std.specs.Iterator.{YieldsFirstBy};
-ghost use Rattle.mach_cli.specs.AllStretches.{parts_view};
+ghost use Rattle.goblin_mach.specs.AllStretches.{parts_view};
 ghost use Rattle.machfixups.specs.KeptFixups.{kinds_in_lines, kinds_in_objects};
 ghost use Rattle.machfixups.specs.Rows.{row_read, shown_picks};
 ghost use Rattle.machfixups.specs.RowsLeft.{rows_left, rows_of_items};
@@ -13,8 +13,9 @@ use crate::row::{Row, binding_row, fixup_row, rebase_row, weak_row};
 use crate::stored_pointers::StoredPointers;
 use crate::target_symbols::TargetSymbols;
 use goblin_mach::chained_fixups::ChainedFixups;
-use goblin_mach::{OpcodeBindingIterator, OpcodeRebaseIterator, Result, WeakBindIterator};
-use mach_cli::AllStretches;
+use goblin_mach::{
+    AllStretches, OpcodeBindingIterator, OpcodeRebaseIterator, Result, WeakBindIterator,
+};
 use std::alloc::Allocator;
 
 /// Which lists are selected.

@@ -29,7 +29,7 @@ use Rattle.goblin_mach.proofs.SlotFacts.{indirect_symbols_are, slots_are}
 use Rattle.goblin_mach.proofs.StreamFacts.{rebases_are, weak_binds_are}
 use Rattle.goblin_mach.proofs.TableFacts.{function_starts_are, data_in_code_are, linker_options_are, build_tools_are}
 use Rattle.mach_parts.specs.Segment.{SegmentView}
-use Rattle.mach_cli.specs.AllStretches.{SegmentStretches, parts_of}
+use Rattle.goblin_mach.specs.AllStretches.{SegmentStretches, parts_of}
 use Rattle.machinfo.specs.CommandRows.{CommandRowView, rows_of_commands}
 use Rattle.machinfo.specs.Imports.{HasImportFields, fields_of_imports}
 use Rattle.machinfo.specs.NumberedCommands.{NumberedCommandView, numbered_commands_from}

@@ -8,3 +8,4 @@ mod SectionRows
 mod SectionsOfCommands
 mod Some
 mod Verdicts
+mod SegmentStatus

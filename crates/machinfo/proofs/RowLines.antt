@@ -5,7 +5,7 @@ use Rattle.mach_cli.specs.Fields.{fields_line, fields_pairs}
 use Rattle.mach_cli.proofs.OneLine.{no_feeds, line-end}
 use Rattle.mach_audit.specs.FactRows.{FactView, uuid_fact, platform_fact, tool_fact, library_fact, path_fact}
 use Rattle.machinfo.specs.FactTexts.{fact_text}
-use Rattle.machinfo.specs.Platforms.{platform_name}
+use Rattle.machinfo.specs.Platforms.{platform_word}
 use Rattle.machinfo.specs.RowFields.{row_fields}
 use Rattle.machinfo.specs.Rows.{RowView}
 use Rattle.machinfo.specs.PartLines.{part_line}
@@ -14,7 +14,7 @@ use Rattle.machinfo.specs.declared.word.Part.{Part}
 use Rattle.machinfo.specs.declared.word.Part.TheVariants as parts
 use Rattle.mach_cli.proofs.FieldLines.{no_feed-line, no_feed-uuid, pairs_are_one_line}
 
-no_feed-platform : (number : ℕ) → has_no_feed (platform_name number) ≡ true
+no_feed-platform : (number : ℕ) → has_no_feed (platform_word number) ≡ true
 no_feed-platform number = search (no_feeds, rules)
 
 no_feed-tool : (number : ℕ) → has_no_feed (tool_text number) ≡ true

@@ -12,9 +12,9 @@ use Rattle.mach_load.specs.Newer.{Newer, NewerKind, newer_at}
 use Rattle.mach_load.specs.Newer as newer
 use Rattle.mach_cli.specs.Fields.{FieldView, ValueView, alone_field, field_of, hex, named, number, object_field, optional_text, source_version}
 use Rattle.mach_cli.specs.Fields.{uuid, version, wide_field}
-use Rattle.machinfo.specs.Platforms.{platform_name}
+use Rattle.machinfo.specs.Platforms.{platform_word}
 use Rattle.mach_cli.specs.JsonText.{name_in_field}
-use Rattle.machinfo.specs.Segments.{rights_text}
+use Rattle.mach_records.specs.NumberNames.{rights_text}
 
 -- how the value of a field is shown: a number in decimal or in hexadecimal, or by a name; a version; a UUID; a name of at most
 -- sixteen bytes; or the text that begins at this byte of the command (union lc_str)
@@ -47,7 +47,7 @@ abbrev pub value_by : (bytes : List ℕ) → List Value → How → (place : ℕ
 value_by bytes values in_decimal place = number (number_among values place)
 value_by bytes values in_hex place = hex (number_among values place)
 value_by bytes values as_platform place =
-    named (number_among values place) (if_known (codes "unknown") (platform_name (number_among values place)))
+    named (number_among values place) (if_known (codes "unknown") (platform_word (number_among values place)))
 value_by bytes values as_rights place = named (number_among values place) (rights_text (number_among values place))
 value_by bytes values as_version place = version (number_among values place)
 value_by bytes values as_source_version place = source_version (number_among values place)

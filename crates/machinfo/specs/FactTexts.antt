@@ -9,9 +9,9 @@ use Rattle.mach_cli.specs.Escapes.{escaped_text}
 use Rattle.mach_cli.specs.Fields.{FieldView, fields_line, fields_object}
 use Rattle.mach_cli.specs.JsonText.{json_string}
 use Rattle.mach_cli.specs.Listings.{reported_by}
-use Rattle.mach_cli.specs.Values.{uuid_text, version_text}
+use Rattle.mach_records.specs.Values.{uuid_text, version_text}
 use Rattle.mach_audit.specs.FactRows.{FactView, uuid_fact, platform_fact, tool_fact, library_fact, path_fact, fact_view, fact_rows_left}
-use Rattle.machinfo.specs.Platforms.{platform_name}
+use Rattle.machinfo.specs.Platforms.{platform_word}
 use Rattle.machinfo.specs.Tools.{tool_text}
 use Rattle.machinfo.specs.RowFields.{library_fields}
 use Rattle.mach_audit.specs.declared.command_facts.PlatformFact.{PlatformFact}
@@ -24,7 +24,7 @@ abbrev pub sdk_text : ℕ → List ℕ
 sdk_text sdk = if sdk == 0 then [] else codes ", sdk " ++ version_text sdk
 
 abbrev pub platform_text : PlatformFact → List ℕ
-platform_text p = codes "platform: " ++ platform_name p.platform ++ codes " " ++ version_text p.least ++ sdk_text p.sdk
+platform_text p = codes "platform: " ++ platform_word p.platform ++ codes " " ++ version_text p.least ++ sdk_text p.sdk
 
 -- the version of a library, and the oldest one that the image accepts
 abbrev pub versions_text : (current least : ℕ) → List ℕ
@@ -53,7 +53,7 @@ sdk_object sdk = if sdk == 0 then codes "null" else codes "\"" ++ (version_text 
 abbrev pub platform_object : PlatformFact → List ℕ
 platform_object p =
     codes "{\"name\":\""
-    ++ (platform_name p.platform
+    ++ (platform_word p.platform
     ++ (codes "\",\"sdk\":" ++ (sdk_object p.sdk ++ (codes ",\"version\":\"" ++ (version_text p.least ++ codes "\"}")))))
 
 abbrev pub tool_object : BuildToolVersion → List ℕ
@@ -65,6 +65,10 @@ fact_object (platform_fact platform) = platform_object platform
 fact_object (tool_fact tool) = tool_object tool
 fact_object (library_fact library) = fields_object (library_fields library)
 fact_object (path_fact path) = json_string path
+
+-- the objects of rows; a fault stays in its place
+abbrev pub fact_objects : List (Result FactView Fault) → List (Result (List ℕ) Fault)
+fact_objects found = map (reported_by fact_object) found
 
 -- ---- what the code's values mean
 
@@ -78,4 +82,4 @@ abbrev pub fact_object_shown : Fact → List ℕ
 fact_object_shown fact = fact_object (fact_view fact)
 
 abbrev pub fact_objects_left : FactObjects → List (Result (List ℕ) Fault)
-fact_objects_left it = map (reported_by fact_object) (fact_rows_left it.0)
+fact_objects_left it = fact_objects (fact_rows_left it.0)

@@ -14,6 +14,7 @@ use Rattle.mach_signature.specs.Directories.{Directory}
 use Rattle.mach_signature.specs.SignedFacts.{HasCodeDirectory}
 use Rattle.machinfo.specs.Counts.{AreCounts, counted_words}
 use Rattle.machinfo.specs.ExportRows.{HasExportFields}
+use Rattle.machinfo.specs.FrontStatus.{IsFrontWhole}
 use Rattle.machinfo.specs.Imports.{HasImportFields}
 use Rattle.machinfo.specs.Lists.{HasRows}
 use Rattle.machinfo.specs.PartLines.{AreLinesOfParts}
@@ -103,11 +104,16 @@ abbrev pub counts_end : (limit : ℕ) → List ℕ
 counts_end limit = codes "\"limit\":" ++ (decimal limit ++ codes "},\"kind\":\"image\"")
 
 -- The text is the members of the image at the start of the bytes: some text first, and then how many items each list has, counted
--- up to the limit. It is whole if the first text and the counts are whole. It uses up nothing of the limit.
+-- up to the limit. It is whole if what the first text says and the counts are whole. It uses up nothing of the limit.
 pub record AreImageSummaryMembers (limit left : ℕ) (bytes : List ℕ) (text : List ℕ) (whole : Bool) (rest : ℕ) : Type 0 where
   pub opens : Opens bytes 0
+  pub facts : Facts
+  pub has_facts : HasFacts bytes 0 facts
+  pub there : Result (Option Directory) Fault
+  pub has_directory : HasCodeDirectory bytes 0 there
   pub front : List ℕ
   pub front_whole : Bool
+  pub is_front_whole : IsFrontWhole limit bytes facts there front_whole
   pub counts : List ℕ
   pub counts_whole : Bool
   pub are_counts : AreCounts Members limit bytes counted_words counts counts_whole

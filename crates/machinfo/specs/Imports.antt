@@ -9,7 +9,8 @@ use Rattle.mach_parts.specs.Bindings.{Binding, binding_view}
 use Rattle.mach_parts.specs.Segment.{SegmentView}
 use Rattle.goblin_mach.specs.BindingsLeft.{bindings_left}
 use Rattle.goblin_mach.specs.Facts.{HasBindings, HasSegments}
-use Rattle.mach_cli.specs.AllStretches.{SegmentStretches, part_with, parts_of, parts_view, section_with, stretch_name}
+use Rattle.goblin_mach.specs.AllStretches.{SegmentStretches, part_with, parts_of, parts_view}
+use Rattle.mach_cli.specs.SectionNames.{section_name_with, stretch_name}
 use Rattle.mach_cli.specs.Fields.{FieldView, alone_field, field_of, hex, line_field, object_field, optional_text, signed, text, wide_field}
 use Rattle.mach_cli.specs.Origins.{ordinal_of, provider_name}
 use Rattle.machinfo.specs.PartFields.{column_if, flag_field, text_or_dash}
@@ -28,7 +29,7 @@ import_segment_name part = option_and_then (λ p. unless_dash (stretch_name p.me
 
 -- the name of the first section of a segment that holds an address, if it has one
 abbrev pub import_section_name : (address : ℕ) → Option SegmentStretches → Option (List ℕ)
-import_section_name address part = option_and_then unless_dash (option_and_then (λ p. section_with address p.sections) part)
+import_section_name address part = option_and_then unless_dash (option_and_then (λ p. section_name_with address p.sections) part)
 
 -- ---- what is shown of a bind
 

@@ -27,3 +27,5 @@ pub mod Exports
 pub mod ExportRows
 pub mod Imports
 pub mod PartLines
+pub mod SegmentStatus
+pub mod FrontStatus

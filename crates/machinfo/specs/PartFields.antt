@@ -10,12 +10,12 @@ use Rattle.mach_parts.specs.declared.segment.numbered.NumberedSection.{NumberedS
 use Rattle.mach_records.specs.declared.segments.Section64.{Section64}
 use Rattle.mach_cli.specs.Fields.{FieldView, ValueView, alone_field, field_of, flag, hex, line_field, named, number, object_field, optional_text}
 use Rattle.mach_cli.specs.Fields.{text, uuid, wide_field}
-use Rattle.mach_cli.specs.Cpus.{arch_rows, cpu_named}
+use Rattle.mach_records.specs.CpuNames.{arch_rows, cpu_named}
 use Rattle.mach_cli.specs.ImageKinds.{image_kind}
 use Rattle.machinfo.specs.CommandFields.{if_known}
 use Rattle.machinfo.specs.Parts.{EntryView, PartRowView, entry_part, header_part, rpath_part, section_part, segment_part, uuid_part}
 use Rattle.mach_cli.specs.JsonText.{if_not_empty, name_in_field}
-use Rattle.machinfo.specs.Segments.{rights_text}
+use Rattle.mach_records.specs.NumberNames.{rights_text}
 use Rattle.machinfo.specs.HeaderWords.{flag_short_name}
 use Rattle.machinfo.specs.declared.parts.UuidRow.{UuidRow}
 use Rattle.machinfo.specs.declared.sections.SectionRow.{SectionRow}

@@ -31,7 +31,7 @@ use Rattle.machinfo.specs.Rows.{RowView, command_row, start_row, slot_row, indir
 use Rattle.machinfo.specs.Rows.{provided_row, library_row, rebase_row, weak_row, part_row, verdict_row, list_row_view}
 use Rattle.mach_cli.specs.JsonText.{if_not_empty}
 use Rattle.machinfo.specs.Lists.{list_rows_left}
-use Rattle.machinfo.specs.Tools.{tool_name}
+use Rattle.machinfo.specs.Tools.{tool_word}
 use Rattle.machinfo.specs.declared.list.ImageList.{ImageList}
 use Rattle.machinfo.specs.declared.row.Row.{Row}
 use Rattle.machinfo.specs.declared.word.Part.TheVariants as parts
@@ -62,7 +62,7 @@ option_fields found = field_of (codes "command") (number found.0) 1 ∷ field_of
 abbrev pub tool_fields : ℕ × BuildToolVersion → List FieldView
 tool_fields found =
     field_of (codes "command") (number found.0) 1
-    ∷ field_of (codes "tool") (named found.1.tool (tool_name found.1.tool)) 2
+    ∷ field_of (codes "tool") (named found.1.tool (tool_word found.1.tool)) 2
     ∷ object_field (codes "version") (number found.1.version)
     ∷ line_field (version found.1.version) 3
     ∷ []

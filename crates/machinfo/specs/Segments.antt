@@ -13,13 +13,6 @@ use Rattle.mach_cli.specs.Listings.{reported_by}
 use Rattle.machinfo.specs.declared.segments.SectionList.{SectionList}
 use Rattle.machinfo.specs.declared.segments.SectionObjects.{SectionObjects}
 
--- the initial protection: reading, writing and execution (VM_PROT_)
-abbrev pub right_text : ℕ → (bit : ℕ) → List ℕ → List ℕ
-right_text rights bit letter = if bit_and rights bit == 0 then codes "-" else letter
-
-abbrev pub rights_text : ℕ → List ℕ
-rights_text rights = right_text rights 1 (codes "r") ++ right_text rights 2 (codes "w") ++ right_text rights 4 (codes "x")
-
 -- sections without their data
 abbrev pub without_data : List (Result (Section × List ℕ) Fault) → List (Result Section Fault)
 without_data found = map (λ item. item >>= (λ s. Ok s.0)) found

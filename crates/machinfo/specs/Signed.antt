@@ -10,7 +10,8 @@ use Rattle.mach_base.specs.declared.error.Error.{Error}
 use Rattle.mach_signature.specs.Directories.{Directory, identifier_of, team_of}
 use Rattle.mach_signature.specs.DirectoryViews.{directory_view}
 use Rattle.mach_signature.specs.declared.directory.CodeDirectory.{CodeDirectory}
-use Rattle.mach_cli.specs.Flags.{code_flags, worded_flags_text}
+use Rattle.mach_records.specs.FlagNames.{code_flags}
+use Rattle.mach_cli.specs.Flags.{worded_flags_text}
 use Rattle.mach_cli.specs.SignatureNames.{name_text}
 
 -- the image is signed, and ad hoc if that flag is set (`cs_blobs.h`, CS_ADHOC)

@@ -10,7 +10,7 @@ use Rattle.mach_parts.specs.Cpu.{kind_of_cpu}
 use Rattle.mach_parts.specs.HeaderNames.{flag_name}
 use Rattle.mach_cli.specs.ImageKinds.{image_kind}
 use Rattle.mach_parts.specs.declared.header.Header.{Header}
-use Rattle.mach_cli.specs.Cpus.{arch_rows, cpu_named}
+use Rattle.mach_records.specs.CpuNames.{arch_rows, cpu_named}
 use Rattle.mach_cli.specs.Escapes.{escaped_text}
 use Rattle.mach_cli.specs.Listings.{hex_text, AreFirstLines}
 use Rattle.mach_audit.specs.FactRows.{FactView, command_facts, library_facts, path_facts, tool_facts}

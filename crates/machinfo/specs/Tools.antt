@@ -1,28 +1,16 @@
--- The names of the tools that build images (`mach-o/loader.h`).
-use Rattle.std.specs.Prelude.{◌==◌, ℕ, List, [], ◌∷◌, codes, length, if◌then◌else◌}
+-- Tools as they are shown.
+use Rattle.std.specs.Prelude.{ℕ, List, [], Option, Some, None, unwrap_or}
 use Rattle.std.specs.Fmt.{decimal}
-use Rattle.mach_base.specs.Named.{Named, name_or}
-
--- tools (TOOL_)
-abbrev pub tool_names : List Named
-tool_names =
-    record { number = 1; name = codes "clang" }
-    ∷ record { number = 2; name = codes "swift" }
-    ∷ record { number = 3; name = codes "ld" }
-    ∷ record { number = 4; name = codes "lld" }
-    ∷ record { number = 1024; name = codes "metal" }
-    ∷ record { number = 1025; name = codes "airlld" }
-    ∷ record { number = 1026; name = codes "airnt" }
-    ∷ record { number = 1027; name = codes "airnt-plugin" }
-    ∷ record { number = 1028; name = codes "airpack" }
-    ∷ record { number = 1031; name = codes "gpuarchiver" }
-    ∷ record { number = 1032; name = codes "metal-framework" }
-    ∷ []
+use Rattle.mach_records.specs.NumberNames as names
 
 -- the name of a tool; none if the number is not known
-abbrev pub tool_name : ℕ → List ℕ
-tool_name number = name_or [] tool_names number
+abbrev pub tool_word : ℕ → List ℕ
+tool_word number = unwrap_or (names.tool_name number) []
 
--- the same, or the number
+-- a name, or the number of a tool that has none
+abbrev pub tool_or_number : Option (List ℕ) → ℕ → List ℕ
+tool_or_number (Some name) number = name
+tool_or_number None number = decimal number
+
 abbrev pub tool_text : ℕ → List ℕ
-tool_text number = if length (tool_name number) == 0 then decimal number else tool_name number
+tool_text number = tool_or_number (names.tool_name number) number

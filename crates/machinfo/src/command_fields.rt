@@ -24,8 +24,8 @@ ghost use Rattle.mach_load.specs.ThreadState.{thread_values};
 ghost use Rattle.mach_load.specs.Variants.{command_of, kind_in, variant_values};
 ghost use Rattle.mach_dyld.specs.Exports.{text_in};
 ghost use Rattle.mach_cli.specs.Fields.{field_view, named, value_view};
-ghost use Rattle.machinfo.specs.Platforms.{platform_name};
-ghost use Rattle.machinfo.specs.Segments.{rights_text};
+ghost use Rattle.machinfo.specs.Platforms.{platform_word};
+ghost use Rattle.mach_records.specs.NumberNames.{rights_text};
 ghost use Rattle.machinfo.specs.CommandFields.{bytes_of_command, command_head, fields_by, if_known, shown_fields};
 ghost use Rattle.machinfo.specs.CommandFields.{build_version_shown, dyld_info_shown, dylib_shown, dylinker_shown, dysymtab_shown};
 ghost use Rattle.machinfo.specs.CommandFields.{encryption_info64_shown, encryption_info_shown, entry_point_shown, fileset_entry_shown, fvmfile_shown};
@@ -36,8 +36,7 @@ ghost use Rattle.machinfo.specs.CommandFields.{symtab_shown, target_triple_shown
 ghost use Rattle.machinfo.specs.NumberedCommands.{numbered_command_fields, numbered_command_view};
 
 use crate::commands::NumberedCommand;
-use crate::segments::rights_name;
-use crate::text::platform_name;
+use crate::text::platform_word;
 use goblin_mach::load_command::{
     BuildVersionCommand, CommandVariant, DyldInfoCommand, DylibCommand, DylinkerCommand,
     DysymtabCommand, EncryptionInfoCommand32, EncryptionInfoCommand64, EntryPointCommand,
@@ -48,6 +47,7 @@ use goblin_mach::load_command::{
     SymtabCommand, TargetTripleCommand, ThreadCommand, TwolevelHintsCommand, UuidCommand,
     VersionMinCommand, command_name,
 };
+use goblin_mach::names::rights_name;
 use mach_base::read_text;
 use mach_cli::{Field, FieldsForm, Value, name_in_field};
 use std::io;
@@ -112,9 +112,9 @@ pub fn named<'a>(number: u32, name: &'static str, unknown: &'static str) -> Valu
 
 // Returns the number of a platform by its name.
 fn platform<'a>(number: u32) -> Value<'a>
-    ensures { value_view result ≡ named number (if_known (codes "unknown") (platform_name number)) }
+    ensures { value_view result ≡ named number (if_known (codes "unknown") (platform_word number)) }
 {
-    named(number, platform_name(number), "unknown")
+    named(number, platform_word(number), "unknown")
 }
 
 /// Returns a protection by its letters.

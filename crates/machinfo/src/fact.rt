@@ -7,9 +7,10 @@ ghost use Rattle.machinfo.specs.FactTexts.{fact_lines_left, fact_object_shown, f
 
 use crate::fields::write_library;
 use crate::text::{PlatformObject, PlatformText, ToolText};
+use goblin_mach::names::{UuidText, VersionText};
 use goblin_mach::{Library, Result};
 use mach_audit::{Fact, FactList};
-use mach_cli::{Escaped, FieldsForm, JsonString, Line, Listing, Object, UuidText, VersionText};
+use mach_cli::{Escaped, FieldsForm, JsonString, Line, Listing, Object};
 use std::io;
 use std::io::Write;
 

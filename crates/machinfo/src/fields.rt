@@ -19,7 +19,7 @@ use crate::notes::NumberedNote;
 use crate::part_fields::write_part;
 use crate::providers::Provided;
 use crate::row::Row;
-use crate::text::tool_name;
+use crate::text::tool_word;
 use goblin_mach::load_command::{BuildToolVersion, DataInCodeEntry};
 use goblin_mach::slots::{IndirectSymbol, SlotKind, SlotSymbol, SymbolSlot};
 use goblin_mach::{Binding, Library, LibraryAttributes, LibraryKind, Provider, Rebase, WeakBind};
@@ -127,7 +127,7 @@ fn tool_fields(number: usize, tool: BuildToolVersion) -> [Field<'static>; 4]
         Field::new("command", Value::Number(number as u64), 1),
         Field::new(
             "tool",
-            Value::Named(u64::from(tool.tool), tool_name(tool.tool)),
+            Value::Named(u64::from(tool.tool), tool_word(tool.tool)),
             2,
         ),
         Field::of_object("version", Value::Number(u64::from(tool.version))),

@@ -4,16 +4,16 @@ ghost use Rattle.std.specs.Prelude.{◌≡◌, ℕ, List, map, option_map, OnOk}
 ghost use Rattle.std.specs.Io.KnownBytes.{Appends};
 ghost use Rattle.mach_dyld.specs.Exports.{text_in};
 ghost use Rattle.mach_parts.specs.Bindings.{binding_view};
-ghost use Rattle.mach_cli.specs.AllStretches.{part_view, part_with, parts_view};
+ghost use Rattle.goblin_mach.specs.AllStretches.{part_view, part_with, parts_view};
 ghost use Rattle.mach_cli.specs.Fields.{field_view};
 ghost use Rattle.machinfo.specs.Imports.{imported_fields, import_from, import_shown, shown_import_view, shown_imports_left, import_section_name};
 ghost use Rattle.machinfo.specs.Imports.{import_segment_name, unless_dash};
 
 use crate::fields::{column_if, flag_field};
 use crate::part_fields::text_or_dash;
-use goblin_mach::{Binding, BindingIterator, Result};
+use goblin_mach::{AllStretches, Binding, BindingIterator, Result, SegmentStretches};
 use mach_cli::{
-    AllStretches, Field, FieldsForm, ItemList, SegmentStretches, Value, ordinal_of, provider_name,
+    Field, FieldsForm, ItemList, Value, ordinal_of, provider_name, section_name_with, stretch_name,
 };
 use std::alloc::Allocator;
 use std::io;
@@ -89,7 +89,7 @@ fn unless_dash(name: &str) -> Option<&str>
 fn segment_name<'p, A: Allocator>(part: Option<&'p SegmentStretches<A>>) -> Option<&'p str>
     ensures { text_in result ≡ import_segment_name (option_map (λ p. part_view p.now) part.entry) }
 {
-    unless_dash(part?.name())
+    unless_dash(stretch_name(&part?.memory))
 }
 
 // Returns the name of the first section of a segment that holds an address, if it has one.
@@ -99,7 +99,7 @@ fn section_name<'p, A: Allocator>(
 ) -> Option<&'p str>
     ensures { text_in result ≡ import_section_name address (option_map (λ p. part_view p.now) part.entry) }
 {
-    unless_dash(part?.section_with(address)?)
+    unless_dash(section_name_with(part?, address)?)
 }
 
 // Returns the field for the image that a symbol comes from: its short name; if there is none, only a line has it, with the ordinal.

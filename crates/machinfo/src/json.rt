@@ -15,10 +15,10 @@ use crate::imports::ImportList;
 use crate::list::ImageList;
 use crate::members::write_front;
 use crate::word::{Choice, Word};
-use goblin_mach::MachO;
+use goblin_mach::{AllStretches, MachO};
 use mach_cli::{
-    AddressObjectsOf, AllStretches, ImageView, InForm, ItemList, Object, Outcome, ShowFailure,
-    print_end_past, print_member,
+    AddressObjectsOf, ImageView, InForm, ItemList, Object, Outcome, ShowFailure, print_end_past,
+    print_member,
 };
 use std::alloc::Allocator;
 use std::io;

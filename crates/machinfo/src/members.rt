@@ -1,10 +1,21 @@
 //! The members of an image's object that say what it is, before those of its counts.
 
-ghost use Rattle.std.specs.Prelude.{OnOk};
+ghost use Rattle.std.specs.Prelude.{◌≡◌, ℕ, List, IfOk, OnOk};
 ghost use Rattle.std.specs.Io.KnownBytes.{Appends};
+ghost use Rattle.goblin_mach.specs.ImageFacts.{facts_view};
+ghost use Rattle.goblin_mach.specs.OpenImage.{IsImage, bytes_view, commands_view};
+ghost use Rattle.mach_audit.specs.FactRows.{fact_rows_left};
+ghost use Rattle.mach_cli.specs.Listings.{CountsRows};
 ghost use Rattle.mach_parts.specs.HeaderNames.{flag_name};
+ghost use Rattle.mach_signature.specs.SignedImages.{image_directory};
+ghost use Rattle.machinfo.specs.FactTexts.{fact_objects};
+ghost use Rattle.machinfo.specs.FrontStatus.{is_entry_read, IsAfterLists, IsFrontWhole};
 ghost use Rattle.machinfo.specs.HeaderWords.{flag_short_name};
+ghost use Rattle.machinfo.specs.Lists.{HasRows};
+ghost use Rattle.machinfo.specs.Signed.{is_readable};
 ghost use Rattle.machinfo.specs.Summary.{flag_text, WritesSome};
+ghost use Rattle.machinfo.specs.declared.word.Part.TheVariants.{Entry};
+ghost use Rattle.machinfo.specs.declared.word.Word.TheVariants as words;
 
 use crate::fact::FactObjects;
 use crate::list::ImageList;
@@ -13,11 +24,11 @@ use crate::signed::{is_ad_hoc, is_readable};
 use crate::summary::flag_short_name;
 use crate::word::{Part, Word};
 use goblin_mach::header::Header;
+use goblin_mach::names::cpu_name;
 use goblin_mach::{Error, MachO, Result, describe};
 use mach_audit::{CommandFacts, FactList, Question, State, state_of};
 use mach_cli::{
-    InForm, ListProgress, Object, StringOrNull, comma_before, cpu_name, image_kind, print_member,
-    then,
+    InForm, ListProgress, Object, StringOrNull, comma_before, image_kind, print_member, then,
 };
 use mach_signature::CodeDirectory;
 use mach_signature::image::code_directory;
@@ -34,7 +45,9 @@ pub fn write_front<A: Allocator, O: Write>(
     limit: usize,
     out: &mut O,
 ) -> io::Result<bool>
-    ensures { OnOk result (WritesSome (O.contents out.old) (O.contents out.new)) }
+    ensures written { OnOk result (WritesSome (O.contents out.old) (O.contents out.new)) }
+    ensures status { (bytes : List ℕ) → IsImage bytes 0 image.now → IfOk result (IsFrontWhole limit bytes (facts_view image.now)
+        (image_directory (bytes_view image.now) (commands_view image.now))) }
 {
     write_header(&image.header, image.name, image.base(), image.entry, out)?;
     write_flags(image.header.flags, out)?;
@@ -53,7 +66,9 @@ fn write_entry<A: Allocator, O: Write>(
     image: &MachO<'_, A>,
     out: &mut O,
 ) -> io::Result<ListProgress>
-    ensures { OnOk result (WritesSome (O.contents out.old) (O.contents out.new)) }
+    ensures written { OnOk result (WritesSome (O.contents out.old) (O.contents out.new)) }
+    ensures status { (bytes : List ℕ) → IsImage bytes 0 image.now → IfOk result (λ t. (rows : _) × (past : ℕ)
+        × HasRows (words.Part Entry) bytes 0 rows past × (t.whole ≡ is_entry_read rows)) }
 {
     let mut list = InForm {
         list: ImageList::of(Word::Part(Part::Entry), image),
@@ -69,7 +84,8 @@ fn write_lists<A: Allocator, O: Write>(
     limit: usize,
     out: &mut O,
 ) -> io::Result<ListProgress>
-    ensures { OnOk result (WritesSome (O.contents out.old) (O.contents out.new)) }
+    ensures written { OnOk result (WritesSome (O.contents out.old) (O.contents out.new)) }
+    ensures status { IfOk result (IsAfterLists limit (facts_view image.now)) }
 {
     let list = FactList::Libraries(image.libraries());
     let libraries = write_list("libraries", list, limit, out)?;
@@ -82,8 +98,11 @@ fn write_lists<A: Allocator, O: Write>(
     let tools = write_list("tools", list, limit, out)?;
     let list = FactList::Commands(CommandFacts::of(Question::Uuid, image));
     let uuids = write_list("uuids", list, limit, out)?;
-    let used = then(then(libraries, paths), platforms);
-    Ok(then(then(used, segments), then(tools, uuids)))
+    let two = then(libraries, paths);
+    let three = then(two, platforms);
+    let four = then(three, segments);
+    let five = then(four, tools);
+    Ok(then(five, uuids))
 }
 
 // Writes a list as a member with this name.
@@ -93,7 +112,8 @@ fn write_list<O: Write>(
     limit: usize,
     out: &mut O,
 ) -> io::Result<ListProgress>
-    ensures { OnOk result (WritesSome (O.contents out.old) (O.contents out.new)) }
+    ensures written { OnOk result (WritesSome (O.contents out.old) (O.contents out.new)) }
+    ensures status { IfOk result (CountsRows limit (fact_objects (fact_rows_left list.entry))) }
 {
     let reported = print_member(name, &mut FactObjects(list), limit, out)?;
     Ok(reported)
@@ -163,7 +183,8 @@ fn write_bit<O: Write>(flag: u32, out: &mut O) -> io::Result<()>
 // Writes what the code directory says, if the image is signed; a name that can't be read is left out. Returns whether all can be
 // read.
 fn write_signature<A: Allocator, O: Write>(image: &MachO<'_, A>, out: &mut O) -> io::Result<bool>
-    ensures { OnOk result (WritesSome (O.contents out.old) (O.contents out.new)) }
+    ensures written { OnOk result (WritesSome (O.contents out.old) (O.contents out.new)) }
+    ensures status { IfOk result (λ whole. whole ≡ is_readable (image_directory (bytes_view image.now) (commands_view image.now))) }
 {
     let answer = code_directory(image);
     write_answer(&answer, out)?;

@@ -25,8 +25,9 @@ use goblin_mach::header::{
     MH_SUBSECTIONS_VIA_SYMBOLS, MH_TWOLEVEL, MH_WEAK_DEFINES,
 };
 use goblin_mach::load_command::Section64;
+use goblin_mach::names::cpu_name;
 use goblin_mach::segment::{NumberedSection, Segment};
-use mach_cli::{Field, FieldsForm, Value, cpu_name, if_not_empty, image_kind, name_in_field};
+use mach_cli::{Field, FieldsForm, Value, if_not_empty, image_kind, name_in_field};
 use std::io;
 use std::io::Write;
 

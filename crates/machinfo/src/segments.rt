@@ -1,42 +1,24 @@
 //! The segments of an image and their sections.
 
-ghost use Rattle.std.specs.Prelude.{◌≡◌, Some, codes, OnOk};
+ghost use Rattle.std.specs.Prelude.{◌≡◌, Some, codes, map, IfOk, OnOk};
 ghost use Rattle.std.specs.Io.KnownBytes.{Appends};
 ghost use Rattle.std.specs.Iterator.{YieldsFirstBy};
 ghost use Rattle.mach_base.specs.Items.{items_in_bounds, read_as};
 ghost use Rattle.mach_parts.specs.Segment.{sections_of, segment_view};
 ghost use Rattle.mach_parts.specs.SectionItems.{sections_left};
-ghost use Rattle.machinfo.specs.Segments.{rights_text, section_object, section_objects_left};
+ghost use Rattle.machinfo.specs.Segments.{section_object, section_objects_left};
+ghost use Rattle.machinfo.specs.SegmentStatus.{IsAfterSections, IsAfterSegments};
 ghost use Rattle.machinfo.specs.Summary.{WritesSome};
 ghost use Rattle.machinfo.specs.Segments.{sections_named, sections_past_the_end};
 
 use goblin_mach::Result;
+use goblin_mach::names::rights_name;
 use goblin_mach::segment::{Section, SectionIterator, Segment};
 use mach_cli::{
     ListProgress, Listing, StringOrNull, comma_before, name_in_field, print_array, then,
 };
 use std::io;
 use std::io::Write;
-
-/// Returns the letters of a protection.
-pub fn rights_name(protection: u32) -> &'static str
-    ensures { result.now ≡ rights_text protection }
-{
-    match (
-        protection & 1 != 0,
-        protection & 2 != 0,
-        protection & 4 != 0,
-    ) {
-        (false, false, false) => "---",
-        (true, false, false) => "r--",
-        (false, true, false) => "-w-",
-        (true, true, false) => "rw-",
-        (false, false, true) => "--x",
-        (true, false, true) => "r-x",
-        (false, true, true) => "-wx",
-        (true, true, true) => "rwx",
-    }
-}
 
 // The sections that are left of a segment, those whose records begin within the bytes, and how many more it claims.
 #[derive(Drop)]
@@ -118,18 +100,21 @@ pub fn write_segments<O: Write>(
     limit: usize,
     out: &mut O,
 ) -> io::Result<ListProgress>
-    ensures { OnOk result (WritesSome (O.contents out.old) (O.contents out.new)) }
+    ensures written { OnOk result (WritesSome (O.contents out.old) (O.contents out.new)) }
+    ensures status { IfOk result (IsAfterSegments limit (map segment_view segments.now)) }
 {
-    let first = &segments[..segments.len().min(limit)];
+    let first = &segments[..limit.min(segments.len())];
     let mut reported = ListProgress {
         left: limit,
         whole: true,
         more: limit < segments.len(),
     };
+    let mut is_first = true;
     write!(out, "\"segments\":[")?;
-    'segments: for (number, segment) in first.iter().enumerate() {
-        let next = write_segment(segment, number == 0, reported.left, out)?;
+    'segments: for segment in first {
+        let next = write_segment(segment, is_first, reported.left, out)?;
         reported = then(reported, next);
+        is_first = false;
     }
     write!(out, "],")?;
     Ok(reported)
@@ -142,7 +127,8 @@ fn write_segment<O: Write>(
     limit: usize,
     out: &mut O,
 ) -> io::Result<ListProgress>
-    ensures { OnOk result (WritesSome (O.contents out.old) (O.contents out.new)) }
+    ensures written { OnOk result (WritesSome (O.contents out.old) (O.contents out.new)) }
+    ensures status { IfOk result (IsAfterSections limit (segment_view segment.now)) }
 {
     let comma = comma_before(is_first);
     let name = StringOrNull(name_in_field(&segment.segname));

@@ -13,8 +13,9 @@ ghost use Rattle.machinfo.specs.Summary.{AreFactLines, AreFrontLines, AreUsedLin
 use crate::fact::FactLines;
 use goblin_mach::MachO;
 use goblin_mach::header::{Header, flag_to_str};
+use goblin_mach::names::cpu_name;
 use mach_audit::{CommandFacts, FactList, Question};
-use mach_cli::{Escaped, cpu_name, image_kind, print_listing};
+use mach_cli::{Escaped, image_kind, print_listing};
 use std::alloc::Allocator;
 use std::io;
 use std::io::Write;

@@ -2,59 +2,27 @@
 
 ghost use Rattle.std.specs.Prelude.{◌≡◌, Some};
 ghost use Rattle.machinfo.specs.FactTexts.{platform_object, platform_text, sdk_object, sdk_text};
-ghost use Rattle.machinfo.specs.Platforms.{platform_name};
-ghost use Rattle.machinfo.specs.Tools.{tool_name, tool_text};
+ghost use Rattle.machinfo.specs.Platforms.{platform_word};
+ghost use Rattle.machinfo.specs.Tools.{tool_text, tool_word};
 
-use goblin_mach::load_command::{
-    PLATFORM_BRIDGEOS, PLATFORM_DRIVERKIT, PLATFORM_IOS, PLATFORM_IOSSIMULATOR,
-    PLATFORM_MACCATALYST, PLATFORM_MACOS, PLATFORM_TVOS, PLATFORM_TVOSSIMULATOR, PLATFORM_VISIONOS,
-    PLATFORM_VISIONOSSIMULATOR, PLATFORM_WATCHOS, PLATFORM_WATCHOSSIMULATOR, TOOL_CLANG, TOOL_LD,
-    TOOL_LLD, TOOL_SWIFT,
-};
+use goblin_mach::names;
+use goblin_mach::names::VersionText;
 use mach_audit::PlatformFact;
-use mach_cli::VersionText;
 use std::fmt;
 use std::fmt::{Display, Formatter, Write};
 
 /// Returns the name of a platform by its number.
-pub fn platform_name(number: u32) -> &'static str
-    ensures { result.now ≡ platform_name number }
+pub fn platform_word(number: u32) -> &'static str
+    ensures { result.now ≡ platform_word number }
 {
-    match number {
-        PLATFORM_MACOS => "macos",
-        PLATFORM_IOS => "ios",
-        PLATFORM_TVOS => "tvos",
-        PLATFORM_WATCHOS => "watchos",
-        PLATFORM_BRIDGEOS => "bridgeos",
-        PLATFORM_MACCATALYST => "maccatalyst",
-        PLATFORM_IOSSIMULATOR => "ios-simulator",
-        PLATFORM_TVOSSIMULATOR => "tvos-simulator",
-        PLATFORM_WATCHOSSIMULATOR => "watchos-simulator",
-        PLATFORM_DRIVERKIT => "driverkit",
-        PLATFORM_VISIONOS => "visionos",
-        PLATFORM_VISIONOSSIMULATOR => "visionos-simulator",
-        _ => "unknown",
-    }
+    names::platform_name(number).unwrap_or("unknown")
 }
 
 /// Returns the name of a tool by its number; none if it is not known.
-pub fn tool_name(number: u32) -> &'static str
-    ensures { result.now ≡ tool_name number }
+pub fn tool_word(number: u32) -> &'static str
+    ensures { result.now ≡ tool_word number }
 {
-    match number {
-        TOOL_CLANG => "clang",
-        TOOL_SWIFT => "swift",
-        TOOL_LD => "ld",
-        TOOL_LLD => "lld",
-        1024 => "metal",
-        1025 => "airlld",
-        1026 => "airnt",
-        1027 => "airnt-plugin",
-        1028 => "airpack",
-        1031 => "gpuarchiver",
-        1032 => "metal-framework",
-        _ => "",
-    }
+    names::tool_name(number).unwrap_or("")
 }
 
 /// The name of a tool, or its number if that is not known.
@@ -65,11 +33,12 @@ impl Display for ToolText {
     ghost output = { λ t. Some (tool_text t.0) };
 
     fn fmt<W: Write>(&self, f: &mut Formatter<W>) -> fmt::Result {
-        let (number, name) = (self.0, tool_name(self.0));
-        if name.is_empty() {
-            write!(f, "{number}")
-        } else {
-            f.write_str(name)
+        match names::tool_name(self.0) {
+            Some(name) => f.write_str(name),
+            None => {
+                let number = self.0;
+                write!(f, "{number}")
+            }
         }
     }
 }
@@ -98,7 +67,7 @@ impl Display for PlatformText {
     ghost output = { λ t. Some (platform_text t.0) };
 
     fn fmt<W: Write>(&self, f: &mut Formatter<W>) -> fmt::Result {
-        let name = platform_name(self.0.platform);
+        let name = platform_word(self.0.platform);
         let (least, sdk) = (VersionText(self.0.least), SdkText(self.0.sdk));
         write!(f, "platform: {name} {least}{sdk}")
     }
@@ -128,7 +97,7 @@ impl Display for PlatformObject {
     ghost output = { λ t. Some (platform_object t.0) };
 
     fn fmt<W: Write>(&self, f: &mut Formatter<W>) -> fmt::Result {
-        let name = platform_name(self.0.platform);
+        let name = platform_word(self.0.platform);
         let sdk = SdkObject(self.0.sdk);
         let least = VersionText(self.0.least);
         write!(

@@ -18,11 +18,10 @@ use crate::signed::print_signed;
 use crate::state::print_state;
 use crate::summary::{print_front, print_used};
 use crate::word::{Choice, Part, Word};
-use goblin_mach::MachO;
+use goblin_mach::{AllStretches, MachO};
 use mach_audit::state_of;
 use mach_cli::{
-    AddressLinesOf, AllStretches, ImageView, InForm, Line, Outcome, Pairs, ShowFailure, print_cut,
-    print_listing,
+    AddressLinesOf, ImageView, InForm, Line, Outcome, Pairs, ShowFailure, print_cut, print_listing,
 };
 use std::alloc::Allocator;
 use std::io;

@@ -28,7 +28,11 @@ use std::process::ExitCode;
 
 const PROGRAM: Program = Program {
     name: NAME,
-    usage: "usage: machresolve [--arch NAME | --cputype 0xN] [--limit N] [--color WHEN] PROGRAM LIBRARY..
+    about: "machresolve looks up each name that a Mach-O program binds, in the program and
+in some libraries, and prints which of them defines it.
+",
+    usage: "usage: machresolve [--arch NAME | --cputype 0xN] [--limit N] [--color WHEN]
+                   PROGRAM LIBRARY..
        machresolve -h | --help | --version
 ",
     version: "machresolve 0.3.0\n",
@@ -38,14 +42,14 @@ const PROGRAM: Program = Program {
         has_cputype: true,
         ..Options::NONE
     },
-    known: &[
-        "--arch",
-        "--color",
-        "--cputype",
-        "--help",
-        "--limit",
-        "--version",
-    ],
+    words: "",
+    flags: "      --arch NAME           of a fat program, the first entry for this cpu
+      --cputype 0xN         of a fat program, the first entry with this cputype
+      --limit N             print at most N bindings of the program
+",
+    examples: "  machresolve prog libz.dylib            where each name is found
+  machresolve --arch arm64 prog *.dylib  the same, of one image
+",
 };
 
 fn main(rt: HostRuntime) -> ExitCode {

@@ -13,12 +13,13 @@ use Rattle.mach_signature.specs.declared.fault.SpecialFault.{SpecialFault}
 use Rattle.machsign.specs.Blobs.{blob_text}
 use Rattle.machsign.specs.Blocks.{checked_text, name_line, slots_words}
 use Rattle.machsign.specs.Kinds.{cms_words, kind_line, signature_words, unchecked_line, why_unknown}
-use Rattle.machsign.specs.Special.{SlotView, hash_after, sealed_text, slot_line, state_text}
-use Rattle.machsign.specs.declared.kind.Cms.{Cms}
-use Rattle.machsign.specs.declared.kind.Cms.TheVariants as messages
-use Rattle.machsign.specs.declared.kind.Kind.{Kind}
-use Rattle.machsign.specs.declared.special.SlotState.{SlotState}
-use Rattle.machsign.specs.declared.special.SlotState.TheVariants.{AsSigned, OtherFile, Unreadable, Unknown, Unsealed, Changed, Absent}
+use Rattle.mach_signature.specs.Special.{SlotView}
+use Rattle.machsign.specs.Special.{hash_after, sealed_text, slot_line, state_text}
+use Rattle.mach_signature.specs.declared.kind.Cms.{Cms}
+use Rattle.mach_signature.specs.declared.kind.Cms.TheVariants as messages
+use Rattle.mach_signature.specs.declared.kind.Kind.{Kind}
+use Rattle.mach_signature.specs.declared.special.SlotState.{SlotState}
+use Rattle.mach_signature.specs.declared.special.SlotState.TheVariants.{AsSigned, OtherFile, Unreadable, Unknown, Unsealed, Changed, Absent}
 
 both_true : (a b : Bool) → (a && b) ≡ true → (a ≡ true) × (b ≡ true)
 both_true true b e = (refl, e)

@@ -6,7 +6,8 @@ use Rattle.std.specs.Prelude.{filter_map}
 use Rattle.std.specs.List.{range_with_len, cons_option}
 use Rattle.mach_signature.specs.AsSigned.{SignedImage}
 use Rattle.mach_signature.specs.Directories.{Directory}
-use Rattle.machsign.specs.Special.{SlotView, slot_in, slots_in, slot_reported}
+use Rattle.mach_signature.specs.Special.{SlotView}
+use Rattle.machsign.specs.Special.{slot_in, slots_in, slot_reported}
 use Rattle.machsign.specs.SpecialLeft.{slots_yet, slot_rows_left}
 use Rattle.machsign.specs.declared.form.Form.{Form}
 use Rattle.machsign.specs.declared.special.SpecialSlots.{SpecialSlots}

@@ -7,8 +7,8 @@ use Rattle.mach_base.specs.Fault.{Fault}
 use Rattle.mach_signature.specs.AsSigned.{SignedImage}
 use Rattle.mach_signature.specs.Chosen.{SlotDirectory}
 use Rattle.mach_signature.specs.CodeFaults.{code_faults_of}
-use Rattle.mach_signature.specs.Directories.{Directory, code_limit_of, page_count_of, identifier_of, team_of, cdhash_of}
-use Rattle.mach_signature.specs.Hashes.{hash_len, hash_of}
+use Rattle.mach_signature.specs.Directories.{Directory, code_limit_of, page_count_of, identifier_of, team_of, cdhash_of, full_cdhash_of}
+use Rattle.mach_signature.specs.Hashes.{hash_len}
 use Rattle.mach_signature.specs.SignWords.{hexadecimal, slot_words}
 use Rattle.mach_signature.specs.SpecialFaults.{special_faults_of}
 use Rattle.mach_signature.specs.declared.fault.CodeFault.{CodeFault}
@@ -18,7 +18,8 @@ use Rattle.mach_signature.specs.declared.hash.HashType.{HashType}
 use Rattle.mach_signature.specs.declared.records.DirectoryHead.{DirectoryHead}
 use Rattle.mach_signature.specs.declared.records.ExecutableSegment.{ExecutableSegment}
 use Rattle.mach_signature.specs.declared.records.RuntimeFields.{RuntimeFields}
-use Rattle.mach_cli.specs.Flags.{code_flags, segment_flags, worded_flags_text}
+use Rattle.mach_records.specs.FlagNames.{code_flags, executable_flags}
+use Rattle.mach_cli.specs.Flags.{worded_flags_text}
 use Rattle.mach_cli.specs.SignatureNames.{bytes_text, name_text}
 use Rattle.machsign.specs.Special.{slot_reported, slots_in}
 use Rattle.machsign.specs.Texts.{hash_name, pages_text, runtime_text}
@@ -54,7 +55,7 @@ segment_end s = min (s.base + s.limit) (2 ^ 64 - 1)
 
 -- the line of an executable segment
 abbrev pub segment_line : ExecutableSegment → List ℕ
-segment_line s = segment_front s.base (segment_end s) ++ (worded_flags_text segment_flags s.flags ++ codes "\n")
+segment_line s = segment_front s.base (segment_end s) ++ (worded_flags_text executable_flags s.flags ++ codes "\n")
 
 -- the line of the executable segment, if the version has it
 abbrev pub executable_line : Option ExecutableSegment → List ℕ
@@ -69,10 +70,7 @@ runtime_line (Some r) = codes "  runtime: " ++ (runtime_text r.version ++ codes 
 abbrev pub cdhash_line : List ℕ → List ℕ
 cdhash_line cdhash = codes "  cdhash: " ++ (bytes_text cdhash ++ codes "\n")
 
--- the whole hash of the directory, of which the cdhash is the first 20 bytes; and its line, if it has more bytes
-abbrev pub full_cdhash_of : Directory → List ℕ
-full_cdhash_of d = hash_of d.hash d.bytes
-
+-- the line of the whole hash, if it has more bytes than the cdhash
 abbrev pub full_cdhash_line : Directory → List ℕ
 full_cdhash_line d = if nat_le (hash_len d.hash) 20 then [] else codes "  full cdhash: " ++ (bytes_text (full_cdhash_of d) ++ codes "\n")
 

@@ -13,21 +13,21 @@ use Rattle.mach_cli.specs.SignatureNames.{bytes_text}
 use Rattle.mach_parts.specs.Segment.{SegmentView}
 use Rattle.mach_signature.specs.AsSigned.{SignedImage}
 use Rattle.mach_signature.specs.Chosen.{directory_of}
-use Rattle.mach_signature.specs.Directories.{Directory, cdhash_of, code_limit_of, identifier_of, page_count_of, team_of}
+use Rattle.mach_signature.specs.Directories.{Directory, cdhash_of, code_limit_of, full_cdhash_of, identifier_of, page_count_of, team_of}
 use Rattle.mach_signature.specs.DirectoryViews.{directory_view}
+use Rattle.mach_signature.specs.Kinds.{has_cms, has_hardened_runtime, has_library_validation, is_ad_hoc, is_linker_signed, kind_of}
 use Rattle.mach_signature.specs.SignedFacts.{HoldsAsSigned}
 use Rattle.mach_signature.specs.SuperBlob.{SuperBlob}
 use Rattle.mach_signature.specs.declared.directory.CodeDirectory.{CodeDirectory}
+use Rattle.mach_signature.specs.declared.kind.Kind.{Kind}
 use Rattle.mach_signature.specs.declared.records.ExecutableSegment.{ExecutableSegment}
 use Rattle.mach_signature.specs.declared.records.RuntimeFields.{RuntimeFields}
 use Rattle.machsign.specs.AgreementTexts.{agreement_object}
 use Rattle.machsign.specs.Blobs.{blobs_array}
-use Rattle.machsign.specs.Blocks.{full_cdhash_of}
 use Rattle.mach_signature.specs.EntitlementAgreement.{agreement_in}
 use Rattle.machsign.specs.Faults.{ReportsFaults}
 use Rattle.machsign.specs.ImageLines.{HasSigned, is_there_cut, is_there_sound}
 use Rattle.machsign.specs.JsonNames.{json_name}
-use Rattle.machsign.specs.Kinds.{has_cms, has_hardened_runtime, has_library_validation, is_ad_hoc, is_linker_signed, kind_of}
 use Rattle.machsign.specs.RequirementLines.{requirements_object}
 use Rattle.machsign.specs.Signatures.{blobs_counted, is_cut, is_unfaulted_whole, limited_count}
 use Rattle.mach_signature.specs.Pages.{shown_faults}
@@ -35,7 +35,6 @@ use Rattle.machsign.specs.Special.{slots_array}
 use Rattle.machsign.specs.Texts.{runtime_text}
 use Rattle.mach_signature.specs.declared.entitlements.agreement.Agreement.{Agreement}
 use Rattle.machsign.specs.declared.form.Form.TheVariants.{Objects}
-use Rattle.machsign.specs.declared.kind.Kind.{Kind}
 
 -- the page size, by its power of 2; 0 is any size
 abbrev pub page_size_text : ℕ → List ℕ

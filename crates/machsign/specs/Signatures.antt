@@ -14,7 +14,8 @@ use Rattle.machsign.specs.Blobs.{blobs_lines, other_blobs_of}
 use Rattle.machsign.specs.Blocks.{slot_directory_lines}
 use Rattle.mach_signature.specs.EntitlementAgreement.{agreement_in, is_agreed}
 use Rattle.machsign.specs.Faults.{has_none, ReportsFaults}
-use Rattle.machsign.specs.Kinds.{cms_of, kind_line, kind_of, unchecked_line}
+use Rattle.machsign.specs.Kinds.{kind_line, unchecked_line}
+use Rattle.mach_signature.specs.Kinds.{cms_of, kind_of}
 use Rattle.mach_signature.specs.Pages.{shown_faults}
 use Rattle.mach_signature.specs.RequirementTypes.{has_readable_requirements}
 use Rattle.machsign.specs.RequirementLines.{requirement_lines}

@@ -4,13 +4,11 @@ use Rattle.std.specs.List.{range_with_len}
 use Rattle.mach_base.specs.Fault.{Fault}
 use Rattle.mach_signature.specs.DirectoryViews.{directory_view}
 use Rattle.mach_signature.specs.FaultViews.{signed_view}
-use Rattle.machsign.specs.Special.{SlotView, slot_in, slot_reported}
+use Rattle.mach_signature.specs.Special.{SlotView}
+use Rattle.mach_signature.specs.SpecialViews.{special_slot_view}
+use Rattle.machsign.specs.Special.{slot_in, slot_reported}
 use Rattle.machsign.specs.declared.special.SlotRow.{SlotRow}
-use Rattle.machsign.specs.declared.special.SpecialSlot.{SpecialSlot}
 use Rattle.machsign.specs.declared.special.SpecialSlots.{SpecialSlots}
-
-abbrev pub special_slot_view : SpecialSlot → SlotView
-special_slot_view s = record { number = s.number; hash = s.hash.now; state = s.state }
 
 abbrev pub slot_row_text : SlotRow → List ℕ
 slot_row_text row = slot_reported row.form (special_slot_view row.slot)

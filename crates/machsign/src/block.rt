@@ -13,7 +13,7 @@ ghost use Rattle.mach_signature.specs.SpecialFaultViews.{special_faults_left};
 ghost use Rattle.machsign.specs.Blocks as defined;
 
 use crate::form::Form;
-use crate::full_hash::print_hash_of;
+use crate::full_hash::print_full_hash;
 use crate::special::{MOST_SLOTS, SpecialSlots};
 use crate::text::{HeadFront, RuntimeText, SegmentFront, ShapeText};
 use mach_cli::{print_bytes, print_code_flags, print_rows, print_segment_flags};
@@ -179,7 +179,7 @@ fn print_full_cdhash<O: Write>(directory: &CodeDirectory<'_>, out: &mut O) -> io
         return Ok(());
     }
     write!(out, "  full cdhash: ")?;
-    print_hash_of(directory.hash, directory.bytes, out)?;
+    print_full_hash(directory, out)?;
     writeln!(out)
 }
 

@@ -1,26 +1,20 @@
-//! All bytes of a hash.
+//! All bytes of a directory's hash.
 
 ghost use Rattle.std.specs.Prelude.{OnOk};
 ghost use Rattle.std.specs.Io.KnownBytes.{Appends};
 ghost use Rattle.mach_cli.specs.SignatureNames.{bytes_text};
-ghost use Rattle.mach_signature.specs.Hashes.{hash_of};
+ghost use Rattle.mach_signature.specs.Directories.{full_cdhash_of};
+ghost use Rattle.mach_signature.specs.DirectoryViews.{directory_view};
 
 use mach_cli::print_bytes;
-use mach_signature::HashType;
-use sha1::Sha1;
-use sha2::{Digest, Sha256, Sha384};
+use mach_signature::CodeDirectory;
 use std::io;
 use std::io::Write;
 
-/// Prints the hash of some bytes.
-#[tactic(auto, unfolding(mach_signature::specs::Hashes::hash_of))]
-pub fn print_hash_of<O: Write>(hash: HashType, bytes: &[u8], out: &mut O) -> io::Result<()>
-    ensures { OnOk result (Appends (O.contents out.old) (O.contents out.new) (bytes_text (hash_of hash bytes.now))) }
+/// Prints the whole hash of a directory.
+pub fn print_full_hash<O: Write>(directory: &CodeDirectory<'_>, out: &mut O) -> io::Result<()>
+    ensures { OnOk result (Appends (O.contents out.old) (O.contents out.new) (bytes_text (full_cdhash_of (directory_view directory.now)))) }
 {
-    match hash {
-        HashType::Sha1 => print_bytes(&Sha1::digest(bytes), out),
-        HashType::Sha256 => print_bytes(&Sha256::digest(bytes), out),
-        HashType::Sha256Truncated => print_bytes(&Sha256::digest(bytes)[..20], out),
-        HashType::Sha384 => print_bytes(&Sha384::digest(bytes), out),
-    }
+    let hash = directory.full_cdhash();
+    print_bytes(hash.as_slice(), out)
 }

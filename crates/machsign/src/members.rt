@@ -20,8 +20,7 @@ use crate::agreement::AgreementObject;
 use crate::blobs::OtherBlobs;
 use crate::faults::write_faults;
 use crate::form::Form;
-use crate::full_hash::print_hash_of;
-use crate::kind::Kind;
+use crate::full_hash::print_full_hash;
 use crate::requirement_lines::write_requirements;
 use crate::signed::{has_sound_parts, signed_image};
 use crate::special::{MOST_SLOTS, SpecialSlots};
@@ -30,7 +29,7 @@ use goblin_mach::segment::Segment;
 use goblin_mach::{Error, MachO, Result, describe};
 use mach_cli::{JsonString, Outcome, print_array, print_bytes};
 use mach_signature::entitlements::{Agreement, agreement_in};
-use mach_signature::{CodeDirectory, ExecutableSegment, RuntimeFields, SignedBytes};
+use mach_signature::{CodeDirectory, ExecutableSegment, Kind, RuntimeFields, SignedBytes};
 use std::alloc::Allocator;
 use std::fmt::{Display, Formatter};
 use std::io::Write;
@@ -132,7 +131,7 @@ fn write_cdhash<O: Write>(
     write!(out, ",\"cdhash\":\"")?;
     print_bytes(&directory.cdhash(), out)?;
     write!(out, "\",\"cdhash_full\":\"")?;
-    print_hash_of(directory.hash, directory.bytes, out)?;
+    print_full_hash(directory, out)?;
     let compared = AgreementObject(agreement);
     let executable = ExecutableObject(directory.executable);
     write!(

@@ -19,14 +19,14 @@ use crate::blobs::OtherBlobs;
 use crate::block::print_directory;
 use crate::faults::write_faults;
 use crate::form::Form;
-use crate::kind::{Cms, Kind, cms_of};
+use crate::kind_text::{KindText, why_unknown};
 use crate::requirement_lines::print_requirements;
 use crate::signed::{has_sound_parts, signed_image};
 use goblin_mach::segment::Segment;
 use goblin_mach::{Error, MachO, describe};
 use mach_cli::{Outcome, print_cut, print_rows};
 use mach_signature::entitlements::agreement_in;
-use mach_signature::{CodeDirectory, SignedBytes};
+use mach_signature::{Cms, CodeDirectory, Kind, SignedBytes, cms_of};
 use std::alloc::Allocator;
 use std::io;
 use std::io::Write;
@@ -111,7 +111,8 @@ fn print_front<O: Write>(signed: &SignedBytes<'_>, out: &mut O) -> io::Result<()
 fn print_kind<O: Write>(kind: Kind, out: &mut O) -> io::Result<()>
     ensures { OnOk result (Appends (O.contents out.old) (O.contents out.new) (kind_line kind)) }
 {
-    writeln!(out, "signature: {kind}")
+    let words = KindText(kind);
+    writeln!(out, "signature: {words}")
 }
 
 // Prints the lines of all directories.
@@ -158,6 +159,6 @@ fn print_back<O: Write>(
 fn print_unchecked<O: Write>(cms: Cms, out: &mut O) -> io::Result<()>
     ensures { OnOk result (Appends (O.contents out.old) (O.contents out.new) (unchecked_line cms)) }
 {
-    let why = cms.why_unknown();
+    let why = why_unknown(cms);
     writeln!(out, "not checked: who signed ({why})")
 }

@@ -4,16 +4,16 @@ ghost use Rattle.std.specs.Prelude.{◌≡◌, Some, OnOk};
 ghost use Rattle.std.specs.Option.{option_map};
 ghost use Rattle.std.specs.Io.KnownBytes.{Appends};
 ghost use Rattle.std.specs.Iterator.{YieldsFirstBy};
-ghost use Rattle.mach_base.specs.Items.{read_as};
-ghost use Rattle.mach_signature.specs.DirectoryViews.{directory_view, slot_read};
+ghost use Rattle.mach_signature.specs.DirectoryViews.{directory_view};
 ghost use Rattle.mach_signature.specs.FaultViews.{signed_view};
+ghost use Rattle.mach_signature.specs.SpecialViews.{special_slot_view};
 ghost use Rattle.machsign.specs.Special as defined;
-ghost use Rattle.machsign.specs.SpecialLeft.{slot_row_text, slot_rows_left, special_slot_view, slots_yet};
+ghost use Rattle.machsign.specs.SpecialLeft.{slot_row_text, slot_rows_left, slots_yet};
 
 use crate::form::Form;
 use mach_base::Result;
 use mach_cli::{Listing, print_bytes};
-use mach_signature::{CodeDirectory, SignedBytes, SlotName, SpecialFault, component, is_unsealing};
+use mach_signature::{CodeDirectory, SignedBytes, SlotName, SlotState, SpecialSlot, shown_slot};
 use std::fmt::{Display, Formatter};
 use std::io::Write;
 use std::{fmt, io};
@@ -21,29 +21,15 @@ use std::{fmt, io};
 /// How many special slots are known.
 pub const MOST_SLOTS: usize = 11;
 
-/// The state of a special slot.
+// The words of the state of a special slot.
 #[derive(Clone, Copy)]
-pub enum SlotState {
-    /// The image has what was signed.
-    AsSigned,
-    /// The image has nothing for it: the slot seals another file.
-    OtherFile,
-    /// What the slot seals can't be read.
-    Unreadable,
-    /// The slot isn't known.
-    Unknown,
-    /// The slot seals nothing.
-    Unsealed,
-    /// The other faults of a slot.
-    Changed,
-    Absent,
-}
+struct StateText(SlotState);
 
-impl Display for SlotState {
-    ghost output = { λ state. Some (defined.state_text state) };
+impl Display for StateText {
+    ghost output = { λ t. Some (defined.state_text t.0) };
 
     fn fmt<W: fmt::Write>(&self, f: &mut Formatter<W>) -> fmt::Result {
-        f.write_str(match self {
+        f.write_str(match self.0 {
             SlotState::AsSigned => "as signed",
             SlotState::OtherFile => "of another file",
             SlotState::Unreadable => "unreadable",
@@ -71,72 +57,6 @@ impl Display for SealedText {
             SlotState::Unknown | SlotState::Unsealed | SlotState::Absent => "",
         })
     }
-}
-
-// Returns the state of a slot without a fault.
-fn unfaulted_state(there: Result<Option<&[u8]>>) -> SlotState
-    ensures { result ≡ defined.unfaulted_state (read_as slot_read there.entry) }
-{
-    match there {
-        Ok(Some(_)) => SlotState::AsSigned,
-        Ok(None) => SlotState::OtherFile,
-        Err(_) => SlotState::Unreadable,
-    }
-}
-
-// Returns the state of a slot, with or without a fault.
-fn slot_state(fault: Option<SpecialFault>, there: Result<Option<&[u8]>>) -> SlotState
-    ensures { result ≡ defined.slot_state fault (read_as slot_read there.entry) }
-{
-    match fault {
-        Some(SpecialFault::Unknown { .. }) => SlotState::Unknown,
-        Some(SpecialFault::Unsealed { .. }) => SlotState::Unsealed,
-        Some(SpecialFault::Changed { .. }) => SlotState::Changed,
-        Some(SpecialFault::Absent { .. }) => SlotState::Absent,
-        None => unfaulted_state(there),
-    }
-}
-
-/// A special slot, with its hash if it has one.
-#[derive(Clone, Copy, Drop)]
-pub struct SpecialSlot<'a> {
-    number: u32,
-    hash: &'a [u8],
-    state: SlotState,
-}
-
-// Returns a slot if it seals something, or has a fault.
-fn if_shown<'a>(
-    number: u32,
-    hash: &'a [u8],
-    fault: Option<SpecialFault>,
-    there: Result<Option<&[u8]>>,
-) -> Option<SpecialSlot<'a>>
-    ensures { option_map special_slot_view result ≡ defined.if_shown number hash.now fault (read_as slot_read there.entry) }
-{
-    if fault.is_none() && is_unsealing(hash) {
-        return None;
-    }
-    let state = slot_state(fault, there);
-    Some(SpecialSlot {
-        number,
-        hash,
-        state,
-    })
-}
-
-// Returns the slot with a number, if it seals something, or has a fault.
-fn shown_slot<'a>(
-    signed: &SignedBytes<'a>,
-    directory: &CodeDirectory<'a>,
-    number: u32,
-) -> Option<SpecialSlot<'a>>
-    ensures { option_map special_slot_view result ≡ defined.shown_slot (signed_view signed.now) (directory_view directory.now) number }
-{
-    let hash = directory.special_slot(number)?;
-    let fault = directory.special_fault(&signed.signature, signed.plist, number);
-    let there = component(&signed.signature, signed.plist, number);
-    if_shown(number, hash, fault, there)
 }
 
 // Whether a slot has a line even if it seals nothing: the Info.plist, the requirements, the resources, or entitlements.
@@ -256,9 +176,10 @@ impl<'a> Listing for SpecialSlots<'a> {
 fn print_line<O: Write>(slot: &SpecialSlot<'_>, out: &mut O) -> io::Result<()>
     ensures { OnOk result (Appends (O.contents out.old) (O.contents out.new) (defined.slot_line (special_slot_view slot.now))) }
 {
-    let (name, state, sealed) = (SlotName(slot.number), slot.state, SealedText(slot.state));
+    let (name, state) = (SlotName(slot.number), StateText(slot.state));
+    let sealed = SealedText(slot.state);
     write!(out, "  {name}: {sealed}{state}")?;
-    print_hash(state, slot.hash, out)
+    print_hash(slot.state, slot.hash, out)
 }
 
 // Prints the hash of a slot that seals another file.
@@ -278,7 +199,7 @@ fn print_hash<O: Write>(state: SlotState, hash: &[u8], out: &mut O) -> io::Resul
 fn write_object<O: Write>(slot: &SpecialSlot<'_>, out: &mut O) -> io::Result<()>
     ensures { OnOk result (Appends (O.contents out.old) (O.contents out.new) (defined.special_slot_object (special_slot_view slot.now))) }
 {
-    let (number, name, state) = (slot.number, SlotName(slot.number), slot.state);
+    let (number, name, state) = (slot.number, SlotName(slot.number), StateText(slot.state));
     write!(out, "{{\"hash\":\"")?;
     print_bytes(slot.hash, out)?;
     write!(

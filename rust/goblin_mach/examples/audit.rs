@@ -1,15 +1,15 @@
-//! Prints each fault of the layout of an image: `audit FILE`.
-use goblin_mach::MachO;
-use goblin_mach::layout::layout_faults;
+//! Prints the faults of the layout of an image, and whether the file is sound: `audit FILE`.
+use goblin_mach::audit::{ImageReport, InputReport, Report, audit};
 use std::{env, error::Error, fs};
 
 fn main() -> Result<(), Box<dyn Error>> {
     let bytes = fs::read(env::args().nth(1).ok_or("usage: audit FILE")?)?;
-    let image = MachO::parse(&bytes, 0)?;
-    let faults = layout_faults(&image)?;
-    for fault in &faults {
-        println!("{fault:?}");
+    let report = audit(&bytes, 1_000_000)?;
+    if let InputReport::Mach(Report::Image(ImageReport::Opens(parts))) = &report {
+        for fault in &parts.layout {
+            println!("{fault}");
+        }
     }
-    println!("{} faults", faults.len());
+    println!("{}", report.verdict());
     Ok(())
 }

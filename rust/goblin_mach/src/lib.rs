@@ -50,7 +50,7 @@ pub mod layout {
     pub use crate::mach::layout::*;
 }
 
-/// Verdicts on how an image is hardened.
+/// Verdicts on how an image is hardened. With the feature `audit` also whether a file is sound, and each of its faults.
 #[cfg(feature = "signature")]
 pub mod audit {
     pub use crate::facade::audit::security;

@@ -1,5 +1,5 @@
 //! Segments, sections, symbols, functions and offsets that are looked up by names, addresses and offsets.
-use goblin_mach::{Function, MachO, SymbolMap};
+use goblin_mach::{AllStretches, FoundAt, Function, MachO, Stretch, Stretches, SymbolMap};
 
 /// A name of 16 bytes, padded with zeros.
 fn padded(name: &str) -> [u8; 16] {
@@ -304,6 +304,73 @@ fn a_map_finds_the_symbols() {
                 );
             }
         }
+    }
+}
+
+#[test]
+fn ranges_that_hold_addresses() {
+    // Ranges that overlap, are empty, and end at the last address or past it.
+    for (many, spread) in [(0, 1), (1, 8), (2, 8), (7, 40), (60, 40), (300, 1000)] {
+        let mut numbers = Numbers(many);
+        let name = padded("a");
+        let mut ranges: Vec<_> = (0..many)
+            .map(|_| Stretch {
+                name,
+                start: numbers.below(spread),
+                size: numbers.below(12),
+            })
+            .collect();
+        for (start, size) in [(u64::MAX - 3, 2), (u64::MAX - 1, 2), (u64::MAX, u64::MAX)] {
+            let at = numbers.below(ranges.len() as u64 + 1) as usize;
+            ranges.insert(at, Stretch { name, start, size });
+        }
+        let table = Stretches::of(ranges.clone()).unwrap();
+        for address in (0..spread + 14).chain(u64::MAX - 5..=u64::MAX) {
+            let holds =
+                |range: &Stretch| range.start <= address && address - range.start < range.size;
+            let want = ranges.iter().position(holds);
+            assert_eq!(table.first_with(address), want, "{many} {address:#x}");
+        }
+    }
+}
+
+#[test]
+fn segments_and_sections_that_hold_addresses() {
+    let bytes = image(7);
+    let image = MachO::parse(&bytes, 0).unwrap();
+    let segments = AllStretches::of_image(&image).unwrap();
+    let names = |address| {
+        let segment = segments.first_with(address)?;
+        let section = segment.section_with(address);
+        let section = section.map_or("none", |section| section.name().unwrap());
+        Some((segment.memory.name().unwrap(), section))
+    };
+    let rows = [
+        ("before all", 0xfff, None),
+        ("before the sections", 0x1000, Some(("__TEXT", "none"))),
+        ("the first section", 0x1100, Some(("__TEXT", "__text"))),
+        ("the next one", 0x1140, Some(("__TEXT", "__const"))),
+        ("after them", 0x1160, Some(("__TEXT", "none"))),
+        ("after the segment", 0x2000, None),
+        ("the other segment", 0x3017, Some(("__DATA", "__text"))),
+        ("its section, after its end", 0x3018, None),
+    ];
+    for (row, address, want) in rows {
+        assert_eq!(names(address), want, "{row}");
+    }
+    assert_eq!(segments.get(1).unwrap().memory.start, 0x3000);
+    assert!(segments.get(2).is_none());
+}
+
+#[test]
+fn all_at_an_address() {
+    let bytes = image(7);
+    let image = MachO::parse(&bytes, 0).unwrap();
+    for address in (0x10f0..0x1170).chain(0x2ff0..0x3030).chain([0, u64::MAX]) {
+        let found = FoundAt::look_up(&image, address);
+        assert_eq!(found.section, image.section_at(address), "{address:#x}");
+        assert_eq!(found.symbol, image.symbol_at(address), "{address:#x}");
+        assert_eq!(found.function, image.function_at(address), "{address:#x}");
     }
 }
 

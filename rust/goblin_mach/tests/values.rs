@@ -684,3 +684,32 @@ fn a_table_of_64_bits_shown() {
         "FatArch64Iterator { bytes: 72 bytes, index: 0, narches: 1 }"
     );
 }
+
+#[test]
+fn names_of_numbers() {
+    use goblin_mach::names::{Arch, SourceVersionText, UuidText, VersionText};
+    use goblin_mach::names::{code_flags, executable_flags};
+    use goblin_mach::names::{cpu_name, platform_name, rights_name, tool_name};
+    let arch = Arch::named("arm64e").unwrap();
+    assert_eq!((arch.cputype, arch.cpusubtype), (0x100_000c, 2));
+    assert_eq!(cpu_name(arch.cputype, arch.cpusubtype), Some("arm64e"));
+    assert_eq!((Arch::named("vax").is_none(), cpu_name(1, 0)), (true, None));
+    assert_eq!(
+        (platform_name(11), platform_name(99)),
+        (Some("visionos"), None)
+    );
+    assert_eq!((tool_name(1024), tool_name(5)), (Some("metal"), None));
+    assert_eq!((rights_name(5), rights_name(0)), ("r-x", "---"));
+    let (code, executable) = (code_flags()[9], executable_flags()[6]);
+    assert_eq!((code.bit, code.name), (0x20000, "linker-signed"));
+    assert_eq!(
+        (executable.bit, executable.name),
+        (0x200, "can-exec-cdhash")
+    );
+    assert_eq!(VersionText(0x000a_0f01).to_string(), "10.15.1");
+    let source = SourceVersionText(1 << 40 | 2 << 30 | 3 << 20 | 4 << 10 | 5);
+    assert_eq!(source.to_string(), "1.2.3.4.5");
+    let uuid = [0xab; 16];
+    let shown = "ABABABAB-ABAB-ABAB-ABAB-ABABABABABAB";
+    assert_eq!(UuidText(&uuid).to_string(), shown);
+}

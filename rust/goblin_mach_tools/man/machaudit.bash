@@ -2,7 +2,7 @@ _machaudit() {
     local word=${COMP_WORDS[COMP_CWORD]}
     case ${COMP_WORDS[COMP_CWORD - 1]} in --limit|--arch|--cputype|--color) return ;; esac
     case $word in
-    -*) mapfile -t COMPREPLY < <(compgen -W "--quiet --json --limit --names -0 --arch --cputype --color -h --help --version" -- "$word") ;;
+    -*) mapfile -t COMPREPLY < <(compgen -W "--limit --names --arch --cputype --json --quiet -0 --color -h --help --version" -- "$word") ;;
     *)
         compopt -o filenames
         mapfile -t COMPREPLY < <(compgen -f -- "$word")

@@ -1,8 +1,8 @@
 _machinfo() {
     local word=${COMP_WORDS[COMP_CWORD]}
-    case ${COMP_WORDS[COMP_CWORD - 1]} in --at|--limit|--arch|--cputype|--color) return ;; esac
+    case ${COMP_WORDS[COMP_CWORD - 1]} in --limit|--arch|--cputype|--at|--color) return ;; esac
     case $word in
-    -*) mapfile -t COMPREPLY < <(compgen -W "--at --json --limit --names -0 --arch --cputype --color -h --help --version" -- "$word") ;;
+    -*) mapfile -t COMPREPLY < <(compgen -W "--limit --json --names -0 --arch --cputype --at --color -h --help --version" -- "$word") ;;
     *)
         if [ "$COMP_CWORD" = 1 ]; then
             mapfile -t COMPREPLY < <(compgen -W "at commands starts slots indirect data options tools notes providers libraries rebases weak segments sections uuid rpaths entrypoint header security exports imports" -- "$word")

@@ -5,10 +5,9 @@ ghost use Rattle.mach_base.specs.Text.{text_at};
 ghost use Rattle.mach_cli.specs.AddressLines.{at_text, function_text, held_text, holder_text, nearest_text};
 ghost use Rattle.mach_cli.specs.NamesShown.{name_or_mark};
 
-use crate::address::FoundAt;
 use crate::name_text::{FileText, NameText};
 use goblin_mach::load_command::Section64;
-use goblin_mach::{Function, read_text};
+use goblin_mach::{FoundAt, Function, read_text};
 use std::fmt;
 use std::fmt::{Display, Formatter, Write};
 

@@ -4,10 +4,9 @@ ghost use Rattle.std.specs.Prelude.{◌≡◌, option_map, Some};
 ghost use Rattle.mach_dyld.specs.Exports.{text_in};
 ghost use Rattle.mach_cli.specs.AddressObjects.{at_member, function_members, holder_members, number_or_null};
 
-use crate::address::FoundAt;
 use crate::json::text::{StringOrNull, name_in_field};
-use goblin_mach::Function;
 use goblin_mach::segment::NumberedSection;
+use goblin_mach::{FoundAt, Function};
 use std::fmt;
 use std::fmt::{Display, Formatter, Write};
 
@@ -25,10 +24,10 @@ impl Display for AtMember<'_, '_> {
 
     fn fmt<W: Write>(&self, f: &mut Formatter<W>) -> fmt::Result {
         let AtMember { address, found } = *self;
-        let distance = NumberOrNull(found.distance());
+        let distance = NumberOrNull(distance(found));
         let function = FunctionMembers(found.function);
         let holder = HolderMembers(found.section);
-        let symbol = StringOrNull(found.symbol_name());
+        let symbol = StringOrNull(symbol_name(found));
         write!(
             f,
             "\"at\":{{\"address\":{address},\"distance\":{distance},{function},{holder},\"symbol\":{symbol}}}"
@@ -85,24 +84,22 @@ impl Display for NumberOrNull {
     }
 }
 
-impl<'a> FoundAt<'a> {
-    // Returns the name of the symbol, if there is one.
-    fn symbol_name(&self) -> Option<&str>
-        ensures { text_in result ≡ option_map (λ s. s.name.now) self.now.symbol }
-    {
-        match &self.symbol {
-            Some(symbol) => Some(symbol.name),
-            None => None,
-        }
+// Returns the name of the symbol that was found, if there is one.
+fn symbol_name<'t>(found: &'t FoundAt<'_>) -> Option<&'t str>
+    ensures { text_in result ≡ option_map (λ s. s.name.now) found.now.symbol }
+{
+    match &found.symbol {
+        Some(symbol) => Some(symbol.name),
+        None => None,
     }
+}
 
-    // Returns how far the address is above the symbol, if there is one.
-    fn distance(&self) -> Option<u64>
-        ensures { result ≡ option_map (λ s. s.distance) self.now.symbol }
-    {
-        match &self.symbol {
-            Some(symbol) => Some(symbol.distance),
-            None => None,
-        }
+// Returns how far the address is above the symbol that was found, if there is one.
+fn distance(found: &FoundAt<'_>) -> Option<u64>
+    ensures { result ≡ option_map (λ s. s.distance) found.now.symbol }
+{
+    match &found.symbol {
+        Some(symbol) => Some(symbol.distance),
+        None => None,
     }
 }

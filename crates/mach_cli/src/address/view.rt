@@ -4,13 +4,12 @@ ghost use Rattle.std.specs.Prelude.{◌≡◌, is_some};
 ghost use Rattle.mach_cli.specs.AddressLines.{AreAddressLines};
 ghost use Rattle.mach_cli.specs.AddressObjects.{AreAddressMembers};
 
-use crate::address::FoundAt;
 use crate::address::line::AtText;
 use crate::address::object::AtMember;
 use crate::failure::ShowFailure;
 use crate::image_view::{ImageView, Outcome};
 use crate::name_text::file_if;
-use goblin_mach::MachO;
+use goblin_mach::{FoundAt, MachO};
 use std::alloc::Allocator;
 use std::io::Write;
 

@@ -1,15 +1,17 @@
 //! Texts as JSON strings.
 
-ghost use Rattle.std.specs.Prelude.{◌≡◌, Some};
+ghost use Rattle.std.specs.Prelude.{◌≡◌, Some, OnOk};
+ghost use Rattle.std.specs.Io.KnownBytes.{Appends};
 ghost use Rattle.std.specs.Result.{result_ok};
 ghost use Rattle.mach_base.specs.Text.{text_at};
 ghost use Rattle.mach_dyld.specs.Exports.{text_in};
-ghost use Rattle.mach_cli.specs.JsonText.{if_not_empty, json_inner, json_string, name_in_field, string_or_null};
+ghost use Rattle.mach_cli.specs.JsonText.{if_not_empty, json_string, name_in_field, string_or_null};
 
-use crate::escaped::{Style, write_escaped};
+use crate::escaped::{Style, Written, print_written};
 use goblin_mach::read_text;
-use std::fmt;
-use std::fmt::{Display, Formatter, Write};
+use std::fmt::{Display, Formatter};
+use std::io::Write;
+use std::{fmt, io};
 
 /// A text as a string, with its quotation marks.
 #[derive(Clone, Copy)]
@@ -18,21 +20,10 @@ pub struct JsonString<'a>(pub &'a str);
 impl Display for JsonString<'_> {
     ghost output = { λ t. Some (json_string t.0.now) };
 
-    fn fmt<W: Write>(&self, f: &mut Formatter<W>) -> fmt::Result {
-        let inner = Inner(self.0);
+    fn fmt<W: fmt::Write>(&self, f: &mut Formatter<W>) -> fmt::Result {
+        let (style, text) = (Style::Json, self.0);
+        let inner = Written { style, text };
         write!(f, "\"{inner}\"")
-    }
-}
-
-// The inside of a string, between its quotation marks.
-#[derive(Clone, Copy)]
-struct Inner<'a>(&'a str);
-
-impl Display for Inner<'_> {
-    ghost output = { λ t. Some (json_inner t.0.now) };
-
-    fn fmt<W: Write>(&self, f: &mut Formatter<W>) -> fmt::Result {
-        write_escaped(f, Style::Json, self.0)
     }
 }
 
@@ -43,7 +34,7 @@ pub struct StringOrNull<'a>(pub Option<&'a str>);
 impl Display for StringOrNull<'_> {
     ghost output = { λ t. Some (string_or_null (text_in t.0)) };
 
-    fn fmt<W: Write>(&self, f: &mut Formatter<W>) -> fmt::Result {
+    fn fmt<W: fmt::Write>(&self, f: &mut Formatter<W>) -> fmt::Result {
         match self.0 {
             Some(text) => {
                 let text = JsonString(text);
@@ -52,6 +43,15 @@ impl Display for StringOrNull<'_> {
             None => f.write_str("null"),
         }
     }
+}
+
+/// Prints a text as a string, as `JsonString` writes it.
+pub fn print_string<O: Write>(text: &str, out: &mut O) -> io::Result<()>
+    ensures { OnOk result (Appends (O.contents out.old) (O.contents out.new) (json_string text.now)) }
+{
+    out.write_all(b"\"")?;
+    print_written(Style::Json, text, out)?;
+    out.write_all(b"\"")
 }
 
 /// Returns a text, if there is one that is not empty.

@@ -25,7 +25,9 @@ pub enum Group {
 /// Bytes in a notation: a text, or values of a group up to its end.
 #[derive(Clone, Copy)]
 pub struct Span<'a> {
+    /// The notation.
     pub notation: Notation,
+    /// The bytes.
     pub bytes: &'a [u8],
 }
 
@@ -53,8 +55,11 @@ pub enum NumberKind {
 /// A value that contains no other.
 #[derive(Clone, Copy)]
 pub enum Plain<'a> {
+    /// A boolean.
     Boolean(bool),
+    /// What a number stands for.
     Number(NumberKind, u64),
+    /// A text, as it is written.
     Text(Span<'a>),
     /// A real, which no value in DER is like.
     Unlike,
@@ -63,7 +68,9 @@ pub enum Plain<'a> {
 /// A value. The values of a group are still to be read.
 #[derive(Clone, Copy)]
 pub enum Value<'a> {
+    /// A value that contains no other.
     Plain(Plain<'a>),
+    /// A group, and its values up to its end.
     Group(Group, Span<'a>),
 }
 
@@ -72,6 +79,7 @@ pub enum Value<'a> {
 pub struct Entry<'a> {
     /// Its key; empty in an array.
     pub key: Span<'a>,
+    /// The value.
     pub value: Value<'a>,
     /// What follows it, unless that is known only when the value was read to its end.
     pub rest: Option<Span<'a>>,

@@ -163,14 +163,16 @@ pub fn is_plain_text(text: &[u8]) -> bool
 /// What is left of a text: the bytes of a character after the first of them, and then the rest.
 #[derive(Clone, Copy)]
 pub struct Spelled<'a> {
+    /// The character.
     pub character: char,
     /// How many of its bytes were taken.
     pub taken: usize,
+    /// The rest.
     pub text: Span<'a>,
 }
 
-// Returns all of a text.
-fn whole_text<'a>(text: Span<'a>) -> Spelled<'a>
+/// Returns all of a text.
+pub fn whole_text<'a>(text: Span<'a>) -> Spelled<'a>
     ensures { spelled_left result ≡ spelled_text (seen_span text.entry) }
 {
     Spelled {
@@ -251,8 +253,8 @@ fn first_of_text<'a>(text: Span<'a>) -> Option<(u8, Spelled<'a>)>
     })
 }
 
-// Returns the first byte of what is left of a text, and what is left then.
-fn next_byte<'a>(left: Spelled<'a>) -> Option<(u8, Spelled<'a>)>
+/// Returns the first byte of what is left of a text, and what is left then.
+pub fn next_byte<'a>(left: Spelled<'a>) -> Option<(u8, Spelled<'a>)>
     ensures { MatchOption result (spelled_left left.entry ≡ []) (λ x. spelled_left left.entry ≡ x.0 ∷ spelled_left x.1) }
 {
     match byte_of(left.character, left.taken) {

@@ -3,9 +3,9 @@
 ghost use Rattle.std.specs.Prelude.{Some};
 ghost use Rattle.machaudit.specs.JsonFaults as defined;
 
-use crate::report::Finding;
 use crate::signature_text::message_of;
 use goblin_mach::describe;
+use mach_audit::ItemFault;
 use mach_cli::{Refusal, comma_before};
 use mach_layout::{Evidence, LayoutFault};
 use mach_signature::{SignatureFault, SlotName};
@@ -42,7 +42,7 @@ impl FaultObject for NoImage {
     }
 }
 
-impl FaultObject for Finding {
+impl FaultObject for ItemFault {
     fn write_object<O: Write>(&self, part: &str, out: &mut O) -> io::Result<()> {
         let place = self.place;
         let words = describe(&self.error);

@@ -2,8 +2,8 @@
 
 use crate::json::fault::{FaultObject, write_next};
 use crate::layout_text::Counts;
-use crate::report::{Finding, PartReport, Parts, Records, SignaturePart, SignatureReport};
 use goblin_mach::describe;
+use mach_audit::{ItemFault, PartReport, Parts, Records, SignaturePart, SignatureReport};
 use mach_cli::Refusal;
 use mach_layout::LayoutFault;
 use mach_signature::SignatureFault;
@@ -104,7 +104,7 @@ fn write_list<A: Allocator, O: Write>(
         past,
         cut: part.cut,
     };
-    write_part::<Finding, O>(name, reported, unreported, out)
+    write_part::<ItemFault, O>(name, reported, unreported, out)
 }
 
 // Writes a part of an image that consists of records, after a comma.

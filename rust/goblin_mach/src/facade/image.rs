@@ -2,7 +2,7 @@
 use crate::generated::mach_base::{bytes_at, read_text};
 use crate::mach::constants::{S_GB_ZEROFILL, S_THREAD_LOCAL_ZEROFILL, S_ZEROFILL, SECTION_TYPE};
 use crate::mach::segment::NumberedSection;
-use crate::mach::{MachO, Result};
+use crate::mach::{MachO, Result, Stretch};
 
 impl NumberedSection {
     /// Returns the name of the section: the text with which `sectname` begins. Fails if it isn't UTF-8.
@@ -51,6 +51,22 @@ impl NumberedSection {
             S_ZEROFILL | S_GB_ZEROFILL | S_THREAD_LOCAL_ZEROFILL => Ok(&[]),
             _ => bytes_at(bytes, section.offset as usize, section.size as usize),
         }
+    }
+}
+
+impl Stretch {
+    /// Returns the name of the segment or the section: the text with which the field `name` begins. Fails if it isn't UTF-8.
+    ///
+    /// ```
+    /// # let bytes = std::fs::read("tests/data/b.macho")?;
+    /// # let image = goblin_mach::MachO::parse(&bytes, 0)?;
+    /// let segments = goblin_mach::AllStretches::of_image(&image)?;
+    /// let first = segments.get(0).expect("a segment");
+    /// assert_eq!(first.memory.name()?, "__TEXT");
+    /// # Ok::<(), Box<dyn std::error::Error>>(())
+    /// ```
+    pub fn name(&self) -> Result<&str> {
+        read_text(&self.name, 0)
     }
 }
 

@@ -9,6 +9,13 @@ pub mod mach {
     pub use crate::generated::mach::said::BuildVersions;
     pub use crate::generated::mach::said::CommandReader;
 }
+#[cfg(feature = "signature")]
+pub mod mach_audit {
+    #[cfg(feature = "audit")]
+    pub use crate::generated::mach_audit::overlaid::Selection;
+    #[cfg(feature = "audit")]
+    pub use crate::generated::mach_audit::overlaid::entries_within;
+}
 pub mod mach_base {
     pub use crate::generated::mach_base::bytes_at;
     pub use crate::generated::mach_base::quick_uleb;
@@ -33,16 +40,6 @@ pub mod mach_resolve {
     pub use crate::generated::mach_resolve::Notes;
     pub use crate::generated::mach_resolve::archive_error;
     pub use crate::generated::mach_resolve::note_all;
-}
-#[cfg(feature = "signature")]
-pub mod sha1 {
-    pub use crate::generated::sha1::Sha1;
-}
-#[cfg(feature = "signature")]
-pub mod sha2 {
-    pub use crate::generated::sha2::Digest;
-    pub use crate::generated::sha2::Sha256;
-    pub use crate::generated::sha2::Sha384;
 }
 pub mod shim {
     pub use crate::shim::ReadsNumbers;

@@ -10,7 +10,9 @@ use goblin_mach::load_command::DyldInfoCommand;
 use goblin_mach::segment::{Segment, Segments};
 use goblin_mach::symbols::Symbols;
 use goblin_mach::write::{FatEntry, fat_order, write_fat, write_fat64};
-use goblin_mach::{Ctx, Error, Mach, MachO, MultiArch, Result, SingleArch, SymbolMap, link_view};
+use goblin_mach::{
+    AllStretches, Ctx, Error, Mach, MachO, MultiArch, Result, SingleArch, SymbolMap, link_view,
+};
 use std::fmt::Debug;
 
 /// Calls with the growth of a number refused, counted from 0, and with each after it if `once` is false.
@@ -134,6 +136,17 @@ fn maps_of_symbols() {
             .map(|found| found.index))
     };
     assert_eq!(refused_runs(nearest), 5);
+}
+
+#[test]
+fn segments_by_addresses() {
+    let image = MachO::parse(FILE_B, 0).unwrap();
+    let start = image.segments.as_slice()[0].vmaddr;
+    let first = || {
+        let segments = AllStretches::of_image(&image)?;
+        Ok(segments.first_with(start).map(|segment| segment.memory))
+    };
+    assert_eq!(refused_runs(first), 6);
 }
 
 #[test]

@@ -10,7 +10,8 @@ mod samples;
 use goblin_mach::exports::ExportInfo;
 use goblin_mach::write::{FatEntry, Form, create, fat_order};
 use goblin_mach::{
-    AllocError, Error, LinkView, Mach, MachO, MultiArch, SingleArch, SymbolMap, layout, link_view,
+    AllStretches, AllocError, Error, LinkView, Mach, MachO, MultiArch, SingleArch, SymbolMap,
+    layout, link_view,
 };
 use samples::{FILE_A, FILE_B, FILE_C};
 use std::alloc::{GlobalAlloc, Layout, System};
@@ -87,6 +88,7 @@ fn work(bytes: &[u8]) -> Result<usize, Error> {
         count += unless_memory(image.relocations())?.map_or(0, |all| all.len());
         count += layout::layout_faults(&image)?.len();
         count += SymbolMap::new(&image)?.len();
+        count += usize::from(AllStretches::of_image(&image)?.first_with(0).is_some());
         let mut walk = image.walk_exports()?;
         while let Some(item) = walk.next() {
             count += usize::from(unless_memory(item)?.is_ok());
@@ -158,6 +160,17 @@ fn resolve_out_of_memory() {
         Err(failure) => panic!("{failure}"),
     });
     assert!(refused > 30);
+}
+
+#[cfg(feature = "audit")]
+#[test]
+fn audit_out_of_memory() {
+    use goblin_mach::audit::audit;
+    let refused = each_in_turn(|| {
+        let report = audit(FILE_C, 1000)?;
+        Ok(report.verdict())
+    });
+    assert!(refused > 10);
 }
 
 #[test]

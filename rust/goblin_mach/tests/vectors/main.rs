@@ -157,6 +157,8 @@ fn what_the_format_does_not_allow() {
         ("mode loose", "9: unknown mode 'loose'"),
         ("offset +1", "9: '+1' is no number"),
         ("part 1 2 3 4", "9: not 5 numbers"),
+        ("library a", "9: no image ''"),
+        ("library a b", "9: no image 'b'"),
         ("name \\x4", "9: a backslash without x and two digits"),
         ("name \\xff", "9: a name that isn't UTF-8"),
         ("number 1 2", "9: not 1 numbers"),

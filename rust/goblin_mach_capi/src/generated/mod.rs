@@ -5,3 +5,4 @@
 
 pub mod goblin_mach_c;
 pub mod mach_c_places;
+pub mod mach_command_fields;

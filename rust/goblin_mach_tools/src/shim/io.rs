@@ -105,6 +105,20 @@ impl<W: Write> BufWriter<W> {
         &mut self.inner
     }
 
+    /// Writes what the buffer may have no room for.
+    #[cold]
+    fn write_long(&mut self, mut bytes: &[u8]) -> Result<()> {
+        while !bytes.is_empty() {
+            match self.write(bytes) {
+                Ok(0) => return Err(Error::from(ErrorKind::WriteZero)),
+                Ok(count) => bytes = &bytes[count..],
+                Err(error) if error.kind() == ErrorKind::Interrupted => {}
+                Err(error) => return Err(error),
+            }
+        }
+        Ok(())
+    }
+
     /// Writes the bytes of the buffer. What a failure leaves unwritten stays there.
     fn flush_buffer(&mut self) -> Result<()> {
         let mut written = 0;
@@ -134,6 +148,16 @@ impl<W: Write> Write for BufWriter<W> {
         }
         self.buffer.extend_from_slice(bytes);
         Ok(bytes.len())
+    }
+
+    /// Writes as std's does, and at once what the buffer has room for.
+    #[inline]
+    fn write_all(&mut self, bytes: &[u8]) -> Result<()> {
+        if bytes.len() <= CAPACITY - self.buffer.len() {
+            self.buffer.extend_from_slice(bytes);
+            return Ok(());
+        }
+        self.write_long(bytes)
     }
 
     fn flush(&mut self) -> Result<()> {

@@ -5,7 +5,7 @@ use Rattle.mach_cli.specs.Calls.{call_view, kind_at, AddsWord, TakesDashed, Take
 use Rattle.mach_cli.specs.declared.call.Kind.{Kind}
 use Rattle.mach_cli.specs.declared.call.Kind.TheVariants as kinds
 use Rattle.mach_cli.proofs.CallsRead.{kind_of-word, option_open, same_over}
-use Rattle.mach_cli.proofs.CallsRead.{form_step, nul_step, option_step, other_made, other_step, own_made, own_step, plain_step, untaken_all}
+use Rattle.mach_cli.proofs.CallsRead.{asks_text, form_step, nul_step, option_step, other_made, other_step, own_made, own_step, plain_step, untaken_all}
 use Rattle.mach_cli.proofs.CallsRead.{valued_made, valued_step, words_more, not_plain}
 use Rattle.mach_cli.proofs.call.read.Goals as goal
 use Rattle.mach_cli.proofs.call.read.Goals.{in-Plain, in-Nul, in-Form, in-Valued, in-Other+in_default-add, in-Own+in_default-take_dashed}
@@ -53,6 +53,18 @@ returns-in-Err-take_dashed-clause-untaken g c =
     untaken_all (TakesDashed g.O.OwnOptions.taken c.args.options (word_text w) (call_view l.call)) _ _
     (λ new all. own_made g.O.OwnOptions.taken c.args.options w (drop (l.word-index + 1) ws) (call_view l.call) l.is_plain kind new (before.0 new all))
     c.in-Err-take_dashed.ensures.untaken
+
+pub returns-in-Asks-clause-request : goal.returns-in-Asks-clause-request
+returns-in-Asks-clause-request g c =
+    let l = c.words in
+    let ws = c.args.words.now in
+    let w = c.word-item.result in
+    let asked = c.in-Asks.asked in
+    let before = rw (c.in_default.is, words_more ws l.word-index w c.words-test.true c.word-item.is) at l.invariant.0 in
+    let kind =
+    kind_of-word l.is_plain c.args.options w c.as_str.result.now c.kind_at.result (kinds.Asks asked) c.as_str.ensures c.kind_at.ensures c.in-Asks.is in
+    before.1 _
+    (asks_text g.O.OwnOptions.taken c.args.options w (drop (l.word-index + 1) ws) (call_view l.call) asked l.is_plain kind)
 
 pub words-preserved : goal.words-preserved
 words-preserved g c =

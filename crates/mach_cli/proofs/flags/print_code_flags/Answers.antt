@@ -2,7 +2,8 @@ use Rattle.std.proofs.Common.{ℕ, List, subst}
 use Rattle.std.specs.Prelude.{OnOk}
 use Rattle.std.specs.Io.KnownBytes.{Appends}
 use Rattle.mach_base.specs.Named.{Named}
-use Rattle.mach_cli.specs.Flags.{code_flags, worded_flags_text}
+use Rattle.mach_records.specs.FlagNames.{code_flags}
+use Rattle.mach_cli.specs.Flags.{worded_flags_text}
 use Rattle.mach_cli.proofs.flags.print_code_flags.Goals as goal
 
 pub returns : goal.returns

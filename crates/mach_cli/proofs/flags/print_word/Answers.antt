@@ -1,6 +1,7 @@
 use Rattle.std.proofs.Common.{[], ◌++◌, ◌∙◌, sym}
 use Rattle.mach_base.proofs.Written.{Appends-none, Appends-both}
-use Rattle.mach_cli.specs.Flags.{before_text, flag_named}
+use Rattle.mach_records.specs.FlagNames.{flag_named}
+use Rattle.mach_cli.specs.Flags.{before_text}
 use Rattle.mach_cli.proofs.FlagWords.{word_absent, word_there}
 use Rattle.mach_cli.proofs.flags.print_word.Goals as goal
 
@@ -13,7 +14,7 @@ returns-then-is_clear g c = record {
 
 pub returns : goal.returns
 returns g c = record {
-  text = before_text c.args.left.is_first ++ c.args.flag.now.1.now;
-  written = Appends-both _ _ _ (before_text c.args.left.is_first) c.args.flag.now.1.now c.in_ok-print_before.ensures c.in_ok-write.ensures.bytes;
+  text = before_text c.args.left.is_first ++ c.args.flag.now.name.now;
+  written = Appends-both _ _ _ (before_text c.args.left.is_first) c.args.flag.now.name.now c.in_ok-print_before.ensures c.in_ok-write.ensures.bytes;
   occurs = λ words. word_there c.args.left.is_first (flag_named c.args.flag.now) words c.args.left.rest (sym c.is_clear.ensures ∙ c.if-is_clear.false);
 }

@@ -1,6 +1,7 @@
 use Rattle.std.proofs.Common.{◌≡◌, ◌++◌, ℕ, List, map, drop, true}
 use Rattle.std.specs.Io.KnownBytes.{Appends}
-use Rattle.mach_cli.specs.Flags.{flag_named, flag_words_text}
+use Rattle.mach_records.specs.FlagNames.{flag_named}
+use Rattle.mach_cli.specs.Flags.{flag_words_text}
 use Rattle.mach_cli.proofs.flags.print_words.Given as goal
 
 abbrev pub invariant-words : goal.invariant-words

@@ -1,9 +1,10 @@
 use Rattle.std.proofs.Common.{◌∙◌, ap}
 use Rattle.machaudit.proofs.Quiet.{one_line}
 use Rattle.machaudit.proofs.Refusals.{whole_refusal}
-use Rattle.machaudit.proofs.Verdicts.{status_bound, status_sound, status_whole, status_faulty}
-use Rattle.machaudit.specs.Foreign.{refusal_in}
-use Rattle.machaudit.specs.Verdicts.{status_of, verdict_of_report}
+use Rattle.machaudit.proofs.Statuses.{status_bound, status_sound, status_whole, status_faulty}
+use Rattle.mach_audit.specs.Report.{refusal_in}
+use Rattle.mach_audit.specs.Verdicts.{verdict_of_report}
+use Rattle.machaudit.specs.Quiet.{status_of}
 use Rattle.machaudit.proofs.output.run.Goals as goal
 
 pub returns-clause-bounds : goal.returns-clause-bounds

@@ -1,6 +1,6 @@
 use Rattle.std.proofs.Common.{ℕ, ◌∙◌, List, sym, subst, arith}
 use Rattle.machaudit.specs.Selected.{IsFailing}
-use Rattle.machaudit.specs.Sound.{IsSound}
+use Rattle.mach_audit.specs.Sound.{IsSound}
 use Rattle.machaudit.proofs.SelectedEntries.{passed, audited}
 use Rattle.machaudit.proofs.selection.run_entries.Goals as goal
 use Rattle.machaudit.proofs.selection.run_entries.Goals.{then-takes_entry+in_ok-status, else-takes_entry}

@@ -1,9 +1,10 @@
 use Rattle.std.proofs.Common.{◌≡◌, ◌∙◌, ◌⊎◌, List, true, false, sym, subst, inl, inr}
 use Rattle.std.proofs.lemmas.Result.{IfOk-weaker}
+use Rattle.mach_parts.specs.ArchForms.{arch_form_32}
 use Rattle.mach_parts.specs.declared.fat.FatArch.{FatArch}
-use Rattle.mach_cli.specs.Cpus.{misses}
+use Rattle.mach_cli.specs.Cpus.{is_selected, misses}
 use Rattle.machaudit.specs.Selected.{EntriesFail, EntriesSound, sound_file, sound_entries, failing_file, failing_entry, overlaid_entries, no_entry, other_image}
-use Rattle.machaudit.specs.Overlaid.{AreOverlaid}
+use Rattle.mach_audit.specs.Overlaid.{AreOverlaid}
 use Rattle.machaudit.proofs.selection.run_for.Goals as goal
 
 pub returns-in-Whole-clause-sound : goal.returns-in-Whole-clause-sound
@@ -39,7 +40,7 @@ returns-else-misses-clause-faulty g c =
     let has = rw c.in-Entries.is at c.in_ok-selected_of.ensures in
     let archs = c.in-Entries.archs.items in
     let fails = EntriesFail c.args.cpu c.args.call.options.limit c.args.bytes.now in
-    let overlaid = AreOverlaid c.args.cpu c.args.bytes.now in
+    let overlaid = AreOverlaid arch_form_32 (is_selected c.args.cpu) c.args.bytes.now in
     IfOk-weaker c.run_within.result _ _
     (λ status reported one. elim (subst (λ (xs : List FatArch). fails xs ⊎ overlaid xs) c.deref-in-Entries.ensures.value (reported one)) [
       | inl failing ↦ inl (failing_entry has.0 archs has.1 failing)

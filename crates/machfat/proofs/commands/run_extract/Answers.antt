@@ -1,7 +1,12 @@
 use Rattle.std.proofs.lemmas.Result.{IfErr-at_err}
 use Rattle.mach_fat_writer.specs.Changes.{indexed_entry_in}
 use Rattle.machfat.specs.Refusals.{Refuses, IsRefusal}
+use Rattle.machfat.proofs.Placed.{ok_then}
 use Rattle.machfat.proofs.commands.run_extract.Goals as goal
+
+pub returns-clause-extracted : goal.returns-clause-extracted
+returns-clause-extracted g c = λ zero.
+    ok_then _ c.extract.result (c.status.ensures.only zero) c.extract.ensures.extracted (λ whole found. (found.0, found.1, (whole, found.2)))
 
 pub returns-clause-refused : goal.returns-clause-refused
 returns-clause-refused g c = λ one.

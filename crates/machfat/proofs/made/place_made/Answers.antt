@@ -6,7 +6,12 @@ use Rattle.mach_base.specs.declared.error.Error.{Error}
 use Rattle.machfat.specs.Refusals.{IsRefusal, IsWant, refusal_line}
 use Rattle.machfat.specs.declared.refusal.Refusal.{Refusal}
 use Rattle.machfat.specs.declared.refusal.Refusal.TheVariants.{Refused, Foreign, NotFat, NoEntryOf, Entries}
+use Rattle.machfat.proofs.Placed.{ok_then}
 use Rattle.machfat.proofs.made.place_made.Goals as goal
+
+pub returns-clause-written : goal.returns-clause-written
+returns-clause-written g c = λ zero.
+    ok_then _ c.place_file.result (c.status.ensures.only zero) c.place_file.ensures.written (λ whole took. (whole, took))
 
 -- a refusal that is a refused allocation has an error that is one
 wanting : (target : List ℕ) (old new : Option (List ℕ)) (refusal : Refusal) → IsWant refusal → Appends old new (refusal_line target refusal)

@@ -4,3 +4,6 @@ use Rattle.machfat.proofs.made.run_remove.Goals as goal
 
 pub returns-in-Ok-clause-refused : goal.returns-in-Ok-clause-refused
 returns-in-Ok-clause-refused g c = λ one. let want = c.place_made.ensures.wanting one in (OfAll want.0, inl want.1, want.2)
+
+pub returns-in-Ok-clause-removed : goal.returns-in-Ok-clause-removed
+returns-in-Ok-clause-removed g c = λ zero. (c.in-Ok.made.items, c.in-Ok.ensures.removed, rw c.as_slice.ensures.value at c.place_made.ensures.written zero)

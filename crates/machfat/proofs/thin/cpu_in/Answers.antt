@@ -1,7 +1,7 @@
 use Rattle.std.proofs.Common.{◌≡◌, ◌∙◌, ℕ, List, Some, None, ap, sym}
 use Rattle.std.specs.Prelude.{option_map}
 use Rattle.mach_cli.specs.Calls.{IsCputype}
-use Rattle.mach_cli.specs.Cpus.{arch_named, arch_row_of, arch_rows}
+use Rattle.mach_records.specs.CpuNames.{arch_named, arch_row_of, arch_rows}
 use Rattle.mach_cli.specs.declared.cpu.Cpu.{Cpu}
 use Rattle.mach_cli.specs.declared.cpu.Cpu.TheVariants as cpus
 use Rattle.machfat.specs.OfCpu.{SaysCpu}

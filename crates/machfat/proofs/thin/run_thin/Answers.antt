@@ -1,7 +1,12 @@
 use Rattle.std.proofs.lemmas.Result.{IfErr-at_err}
 use Rattle.machfat.specs.OfCpu.{cpu_entry_in}
 use Rattle.machfat.specs.Refusals.{IsRefusal, RefusesCpu}
+use Rattle.machfat.proofs.Placed.{ok_then}
 use Rattle.machfat.proofs.thin.run_thin.Goals as goal
+
+pub returns-clause-thinned : goal.returns-clause-thinned
+returns-clause-thinned g c = λ zero.
+    ok_then _ c.thin.result (c.status.ensures.only zero) c.thin.ensures.thinned (λ whole found. (found.0, found.1, (whole, found.2)))
 
 pub returns-clause-refused : goal.returns-clause-refused
 returns-clause-refused g c = λ one.

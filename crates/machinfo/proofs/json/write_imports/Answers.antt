@@ -1,6 +1,6 @@
 use Rattle.std.proofs.Common.{refl}
 use Rattle.goblin_mach.specs.BindingsLeft.{bindings_left}
-use Rattle.mach_cli.specs.AllStretches.{parts_view}
+use Rattle.goblin_mach.specs.AllStretches.{parts_view}
 use Rattle.machinfo.specs.Imports.{fields_of_imports}
 use Rattle.machinfo.proofs.Facts.{import_fields_are}
 use Rattle.machinfo.proofs.json.write_imports.Goals as goal

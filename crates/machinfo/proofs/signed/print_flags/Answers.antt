@@ -1,7 +1,8 @@
 use Rattle.std.proofs.lemmas.Result.{on_ok_weaker}
 use Rattle.std.specs.Prelude.{codes}
 use Rattle.mach_base.proofs.Written.{Appends-both}
-use Rattle.mach_cli.specs.Flags.{code_flags, worded_flags_text}
+use Rattle.mach_records.specs.FlagNames.{code_flags}
+use Rattle.mach_cli.specs.Flags.{worded_flags_text}
 use Rattle.machinfo.proofs.signed.print_flags.Goals as goal
 
 pub returns : goal.returns

@@ -3,9 +3,9 @@ use Rattle.std.proofs.lemmas.Result.{on_ok_weaker}
 use Rattle.std.specs.Io.KnownBytes.{Appends}
 use Rattle.std.specs.Prelude.{codes, nat_le, if◌then◌else◌, OnOk}
 use Rattle.mach_cli.specs.SignatureNames.{bytes_text}
+use Rattle.mach_signature.specs.Directories.{full_cdhash_of}
 use Rattle.mach_signature.specs.DirectoryViews.{directory_view}
 use Rattle.mach_signature.specs.Hashes.{hash_len}
-use Rattle.machsign.specs.Blocks.{full_cdhash_of}
 use Rattle.machsign.proofs.Written.{three}
 use Rattle.machsign.proofs.block.print_full_cdhash.Goals as goal
 
@@ -22,4 +22,5 @@ returns g c =
     subst (λ (t : List ℕ). OnOk c.writeln.result (Appends old new t))
     (otherwise (nat_le (hash_len d.hash) 20) (codes "  full cdhash: " ++ (hash ++ codes "\n")) (sym c.is_short.ensures ∙ c.if-is_short.false))
     (on_ok_weaker c.writeln.result
-    (λ last. three _ _ _ _ (codes "  full cdhash: ") hash (codes "\n") c.in_ok-write.ensures.bytes c.in_ok-print_hash_of.ensures last) c.writeln.ensures.bytes)
+    (λ last. three _ _ _ _ (codes "  full cdhash: ") hash (codes "\n") c.in_ok-write.ensures.bytes c.in_ok-print_full_hash.ensures last)
+    c.writeln.ensures.bytes)

@@ -7,7 +7,8 @@ use Rattle.mach_cli.specs.Lines.{WritesLines}
 use Rattle.mach_cli.specs.Listings.{text_read, reported_line}
 use Rattle.mach_signature.specs.DirectoryViews.{directory_view}
 use Rattle.mach_signature.specs.FaultViews.{signed_view}
-use Rattle.machsign.specs.Special.{SlotView, slots_in, slot_reported}
+use Rattle.mach_signature.specs.Special.{SlotView}
+use Rattle.machsign.specs.Special.{slots_in, slot_reported}
 use Rattle.machsign.specs.declared.form.Form.TheVariants.{Lines}
 use Rattle.machsign.proofs.Rows.{rows_lines}
 use Rattle.machsign.proofs.Slots.{all_slots, slot_rows_are}

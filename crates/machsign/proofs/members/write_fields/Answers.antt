@@ -3,7 +3,7 @@ use Rattle.std.proofs.lemmas.Result.{on_ok_weaker}
 use Rattle.std.specs.Io.KnownBytes.{Appends}
 use Rattle.mach_base.proofs.Written.{Appends-both}
 use Rattle.machsign.specs.JsonSignature.{kind_members, origin_members}
-use Rattle.machsign.specs.declared.kind.Kind.{Kind}
+use Rattle.mach_signature.specs.declared.kind.Kind.{Kind}
 use Rattle.machsign.proofs.Written.{three, four}
 use Rattle.machsign.proofs.members.write_fields.Goals as goal
 

@@ -7,7 +7,8 @@ use Rattle.mach_base.specs.Fault.{Fault}
 use Rattle.mach_cli.specs.JsonArrays.{with_commas, IsArrayOf}
 use Rattle.mach_signature.specs.DirectoryViews.{directory_view}
 use Rattle.mach_signature.specs.FaultViews.{signed_view}
-use Rattle.machsign.specs.Special.{SlotView, slots_in, slot_reported, slots_array}
+use Rattle.mach_signature.specs.Special.{SlotView}
+use Rattle.machsign.specs.Special.{slots_in, slot_reported, slots_array}
 use Rattle.machsign.specs.declared.form.Form.TheVariants.{Objects}
 use Rattle.std.proofs.Common.{take}
 use Rattle.machsign.proofs.Rows.{rows_array}

@@ -5,7 +5,7 @@ use Rattle.mach_base.proofs.Written.{Appends-both}
 use Rattle.machsign.specs.AgreementTexts.{agreement_line}
 use Rattle.machsign.specs.Kinds.{unchecked_line}
 use Rattle.mach_signature.specs.declared.entitlements.agreement.Agreement.{Agreement}
-use Rattle.machsign.specs.declared.kind.Cms.{Cms}
+use Rattle.mach_signature.specs.declared.kind.Cms.{Cms}
 use Rattle.machsign.proofs.print.print_back.Goals as goal
 
 pub returns : goal.returns

@@ -7,7 +7,7 @@ use Rattle.mach_signature.specs.Directories.{Directory}
 use Rattle.mach_signature.specs.FaultViews.{signed_view}
 use Rattle.machsign.specs.Kinds.{kind_line}
 use Rattle.machsign.specs.Signatures.{directories_front}
-use Rattle.machsign.specs.declared.kind.Kind.{Kind}
+use Rattle.mach_signature.specs.declared.kind.Kind.{Kind}
 use Rattle.machsign.proofs.Written.{three}
 use Rattle.machsign.proofs.print.print_front.Goals as goal
 

@@ -44,9 +44,17 @@ mod view;
 #[cfg(feature = "layout")]
 pub mod layout;
 
+// What an image has at an address, and the segments and sections that hold it.
+pub mod addresses;
+
 #[doc(hidden)]
 pub mod laws;
 
+pub use crate::generated::mach::addresses::AllStretches;
+pub use crate::generated::mach::addresses::FoundAt;
+pub use crate::generated::mach::addresses::SegmentStretches;
+pub use crate::generated::mach::addresses::Stretch;
+pub use crate::generated::mach::addresses::Stretches;
 pub use crate::generated::mach::bindings::BindingIterator;
 pub use crate::generated::mach::command_iterator::CommandIterator;
 pub use crate::generated::mach::exported::find_export;
@@ -172,6 +180,14 @@ pub mod slots {
     pub use crate::generated::mach_parts::{
         IndirectSymbol, IndirectSymbolIterator, IndirectSymbols, SlotIterator, SlotKind,
         SlotSource, SlotSymbol, SymbolSlot, symbol_slot_at,
+    };
+}
+
+/// The names of the format's numbers, and versions and UUIDs as texts.
+pub mod names {
+    pub use crate::generated::mach_records::{
+        Arch, FlagName, SourceVersionText, UuidText, VersionText, code_flags, command_name,
+        cpu_name, executable_flags, platform_name, rights_name, tool_name,
     };
 }
 

@@ -7,7 +7,7 @@ use crate::shim::ReadsNumbers;
 use crate::generated::mach_base::{
     BE, Error, Record, Result, ScrollError, bytes_at, read_text, read_u32, try_rest_at,
 };
-use crate::generated::mach_signature::hash::HashType;
+use crate::generated::mach_signature::hash::{HashBytes, HashType};
 use crate::generated::mach_signature::records::{DirectoryHead, ExecutableSegment, RuntimeFields};
 use crate::generated::mach_signature::slots::MAGIC_DIRECTORY;
 use core::ops::Range;
@@ -338,5 +338,16 @@ impl<'a> CodeDirectory<'a> {
     /// </details>
     pub fn cdhash(&self) -> [u8; 20] {
         self.hash.first_bytes(self.bytes)
+    }
+
+    /// Returns the directory's whole hash. It begins with `cdhash`.
+    ///
+    /// <details><summary>Proved</summary>
+    ///
+    /// - `hash_bytes result ≡ full_cdhash_of (directory_view self)`
+    ///
+    /// </details>
+    pub fn full_cdhash(&self) -> HashBytes {
+        self.hash.digest(self.bytes)
     }
 }

@@ -13,6 +13,15 @@ mod spelling;
 mod xml;
 
 pub use crate::generated::mach_signature::entitlements::agreement::{
-    Agreement, agreement_in, agreement_of, is_agreed,
+    Agreement, agreement_in, agreement_of, is_agreed, readable_values,
 };
+pub use crate::generated::mach_signature::entitlements::compare::rest_or;
 pub use crate::generated::mach_signature::entitlements::debuggers::allows_debuggers;
+pub use crate::generated::mach_signature::entitlements::front::front_at;
+pub use crate::generated::mach_signature::entitlements::parts::{
+    Entry, Front, Group, Notation, NumberKind, Plain, Span, Value,
+};
+pub use crate::generated::mach_signature::entitlements::spelling::{
+    Spelled, next_byte, whole_text,
+};
+pub use crate::generated::mach_signature::entitlements::xml::MOST_STEPS;

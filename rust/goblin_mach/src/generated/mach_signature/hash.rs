@@ -20,6 +20,42 @@ pub enum HashType {
     Sha384,
 }
 
+/// All bytes of a hash.
+#[derive(Clone, Copy, Eq, Hash, PartialEq)]
+#[cfg_attr(not(feature = "internals"), non_exhaustive)]
+pub enum HashBytes {
+    /// Those of SHA-1, or of SHA-256 cut to 20 bytes.
+    Of20([u8; 20]),
+    /// Those of SHA-256.
+    Of32([u8; 32]),
+    /// Those of SHA-384.
+    Of48([u8; 48]),
+}
+
+impl core::fmt::Debug for HashBytes {
+    /// Prints the name of the type.
+    fn fmt(&self, f: &mut core::fmt::Formatter<'_>) -> core::fmt::Result {
+        f.debug_struct("HashBytes").finish_non_exhaustive()
+    }
+}
+
+impl HashBytes {
+    /// Returns the bytes.
+    ///
+    /// <details><summary>Proved</summary>
+    ///
+    /// - `result ≡ hash_bytes self`
+    ///
+    /// </details>
+    pub fn as_slice(&self) -> &[u8] {
+        match self {
+            HashBytes::Of20(bytes) => bytes,
+            HashBytes::Of32(bytes) => bytes,
+            HashBytes::Of48(bytes) => bytes,
+        }
+    }
+}
+
 impl HashType {
     /// Returns the hash of a number, if it is one of the four.
     ///
@@ -95,6 +131,25 @@ impl HashType {
                 let digest = Sha384::digest(bytes);
                 digest.as_slice() == slot
             }
+        }
+    }
+
+    /// Returns the hash of some bytes.
+    ///
+    /// <details><summary>Proved</summary>
+    ///
+    /// - `hash_bytes result ≡ hash_of self bytes`
+    ///
+    /// </details>
+    pub fn digest(self, bytes: &[u8]) -> HashBytes {
+        match self {
+            HashType::Sha1 => HashBytes::Of20(Sha1::digest(bytes)),
+            HashType::Sha256 => HashBytes::Of32(Sha256::digest(bytes)),
+            HashType::Sha256Truncated => {
+                let digest = Sha256::digest(bytes);
+                HashBytes::Of20(array_at(&digest, 0))
+            }
+            HashType::Sha384 => HashBytes::Of48(Sha384::digest(bytes)),
         }
     }
 

@@ -10,10 +10,12 @@ mod directory;
 mod fault;
 mod faults;
 mod hash;
+mod kind;
 mod numbered;
 mod records;
 mod signature;
 mod slots;
+mod special;
 mod special_faults;
 
 // The signature of an image: where its command places it, and its faults.
@@ -37,12 +39,14 @@ pub use crate::generated::mach_signature::fault::{
 pub use crate::generated::mach_signature::faults::{
     SignatureFaults, SignedBytes, code_signature, signature_faults,
 };
-pub use crate::generated::mach_signature::hash::HashType;
+pub use crate::generated::mach_signature::hash::{HashBytes, HashType};
+pub use crate::generated::mach_signature::kind::{Cms, Kind, cms_of};
 pub use crate::generated::mach_signature::records::{
     DirectoryHead, ExecutableSegment, RuntimeFields,
 };
 pub use crate::generated::mach_signature::signature::{Blob, Blobs, CodeSignature};
 pub use crate::generated::mach_signature::slots::{SlotMagic, is_directory_slot, slot_magic};
+pub use crate::generated::mach_signature::special::{SlotState, SpecialSlot, shown_slot};
 pub use crate::generated::mach_signature::special_faults::{
     SpecialFaults, component, is_unsealing,
 };

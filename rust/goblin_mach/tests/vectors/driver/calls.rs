@@ -1,9 +1,13 @@
 //! The calls of vectors/README.md, and what of this crate answers each.
 #[cfg(feature = "archive")]
 use super::archives;
+#[cfg(feature = "audit")]
+use super::audited;
 #[cfg(feature = "layout")]
 use super::judged;
 use super::lines::{Lines, error};
+#[cfg(feature = "resolve")]
+use super::resolved;
 use super::vector::Vector;
 #[cfg(feature = "write")]
 use super::written;
@@ -87,6 +91,8 @@ const OF_FEATURES: &[&str] = &[
     "requirement",
     "entitlements",
     "security",
+    "resolve",
+    "audit",
 ];
 
 fn call_of_feature(name: &str) -> Option<Call> {
@@ -123,6 +129,10 @@ fn call_of_feature(name: &str) -> Option<Call> {
         "entitlements" => Call::Image(said::entitlements),
         #[cfg(feature = "signature")]
         "security" => Call::Image(said::security),
+        #[cfg(feature = "resolve")]
+        "resolve" => Call::File(resolved::resolved),
+        #[cfg(feature = "audit")]
+        "audit" => Call::File(audited::audited),
         _ if OF_FEATURES.contains(&name) => Call::LeftOut,
         _ => return None,
     })

@@ -19,7 +19,7 @@ fn owner(it: Owner) -> String {
     )
 }
 
-fn fault(it: LayoutFault) -> String {
+pub fn fault(it: LayoutFault) -> String {
     let (rule, found, limit) = (hyphened(it.rule.words()), it.found, it.limit);
     let other = it
         .other

@@ -4,6 +4,8 @@
 
 #[cfg(feature = "archive")]
 mod archives;
+#[cfg(feature = "audit")]
+mod audited;
 mod calls;
 mod dyld;
 mod files;
@@ -13,6 +15,8 @@ mod judged;
 mod lines;
 mod names;
 mod outcome;
+#[cfg(feature = "resolve")]
+mod resolved;
 #[cfg(feature = "signature")]
 mod said;
 #[cfg(feature = "signature")]

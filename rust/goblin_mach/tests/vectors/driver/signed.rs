@@ -141,7 +141,7 @@ fn row(fault: SignatureFault) -> Row {
     }
 }
 
-fn fault(fault: SignatureFault) -> String {
+pub fn fault(fault: SignatureFault) -> String {
     let Row {
         kind,
         slot,

@@ -11,6 +11,7 @@ const KEYS: &[(&str, bool)] = &[
     ("image", false),
     ("cut", false),
     ("change", true),
+    ("library", true),
     ("call", false),
     ("mode", false),
     ("offset", false),
@@ -68,6 +69,9 @@ pub struct Vector {
     pub numbers: Vec<Vec<u64>>,
     #[cfg_attr(not(feature = "write"), allow(dead_code))]
     pub parts: Vec<Vec<u64>>,
+    /// The files that are given with it, each with its path.
+    #[cfg_attr(not(feature = "resolve"), allow(dead_code))]
+    pub libraries: Vec<(String, Vec<u8>)>,
     pub want: Want,
 }
 
@@ -245,8 +249,8 @@ fn file(block: &Block<'_>, images: &HashMap<&str, Vec<u8>>) -> Result<Vec<u8>> {
 }
 
 /// A name, in which `\x` and two digits are a byte.
-fn name(line: &Line<'_>) -> Result<String> {
-    let mut parts = line.value.split('\\');
+fn name(line: &Line<'_>, text: &str) -> Result<String> {
+    let mut parts = text.split('\\');
     let mut bytes = parts.next().unwrap_or("").as_bytes().to_vec();
     for part in parts {
         match (part.strip_prefix('x'), part.get(1..3), part.get(3..)) {
@@ -258,6 +262,15 @@ fn name(line: &Line<'_>) -> Result<String> {
         }
     }
     String::from_utf8(bytes).or_else(|_| refuse(line.number, "a name that isn't UTF-8"))
+}
+
+/// The path and the bytes of a library that is given with the file.
+fn library(line: &Line<'_>, images: &HashMap<&str, Vec<u8>>) -> Result<(String, Vec<u8>)> {
+    let (path, image) = line.value.split_once(' ').unwrap_or((line.value, ""));
+    match images.get(image) {
+        Some(bytes) => Ok((name(line, path)?, bytes.clone())),
+        None => refuse(line.number, format!("no image '{image}'")),
+    }
 }
 
 fn want(block: &Block<'_>) -> Result<Want> {
@@ -302,10 +315,16 @@ fn vector(block: &Block<'_>, images: &HashMap<&str, Vec<u8>>) -> Result<Vector> 
         bytes: file(block, images)?,
         is_lossy,
         offset: block.number("offset")?.unwrap_or(0) as usize,
-        wanted_name: block.find("name").map_or(Ok(String::new()), name)?,
+        wanted_name: block
+            .find("name")
+            .map_or(Ok(String::new()), |line| name(line, line.value))?,
         address: block.number("address")?.unwrap_or(0),
         numbers: block.numbers("number", if is_of_two { 2 } else { 1 })?,
         parts: block.numbers("part", 5)?,
+        libraries: block
+            .all("library")
+            .map(|line| library(line, images))
+            .collect::<Result<_>>()?,
         want: want(block)?,
     })
 }

@@ -3,13 +3,16 @@
 
 pub use super::archive::{gmr_archive_kind, gmr_archive_members, gmr_archive_symbols};
 pub use super::archive_find::{gmr_archive_find, gmr_archive_member_named};
+pub use super::audit::gmr_audit;
 pub use super::bindings::gmr_bindings;
 pub use super::commands::gmr_commands;
 pub use super::data_in_code::gmr_data_in_code;
+pub use super::entitlement_items::gmr_entitlement_items;
 pub use super::entitlements::gmr_entitlements_agree;
 pub use super::exports::gmr_exports;
 pub use super::fat::gmr_fat_entries;
 pub use super::fat64::{gmr_fat_entries64, gmr_image_for};
+pub use super::fields::gmr_command_fields;
 pub use super::find::gmr_find_export;
 pub use super::fixups::gmr_fixups;
 pub use super::ids::gmr_ids;
@@ -58,14 +61,17 @@ macro_rules! calls {
         $with!(gmr_archive_symbols(bytes: &[u8], first: usize, out: &mut [gm_archive_symbol]) -> usize);
         $with!(gmr_archive_find(bytes: &[u8], symbol: &[u8], member: &mut gm_archive_member, error: &mut gm_error) -> u32);
         $with!(gmr_archive_member_named(bytes: &[u8], name: &[u8], member: &mut gm_archive_member, error: &mut gm_error) -> u32);
+        $with!(gmr_audit(bytes: &[u8], limit: usize, out: &mut [gm_finding], count: &mut usize, verdict: &mut u32, error: &mut gm_error) -> u32);
         $with!(gmr_bindings(bytes: &[u8], image: &gm_image, cursor: &mut gm_binding_cursor, out: &mut [gm_binding], count: &mut usize, error: &mut gm_error) -> u32);
         $with!(gmr_commands(bytes: &[u8], image: &gm_image, first: usize, out: &mut [gm_command]) -> usize);
         $with!(gmr_data_in_code(bytes: &[u8], image: &gm_image, first: usize, out: &mut [gm_data_in_code_entry]) -> usize);
+        $with!(gmr_entitlement_items(bytes: &[u8], image: &gm_image, is_der: u32, items: &mut [gm_entitlement_item], count: &mut usize, texts: &mut [u8], texts_len: &mut usize, error: &mut gm_error) -> u32);
         $with!(gmr_entitlements_agree(bytes: &[u8], image: &gm_image, agreement: &mut u32, error: &mut gm_error) -> u32);
         $with!(gmr_exports(bytes: &[u8], image: &gm_image, walk: &mut gm_export_walk, name: &mut [u8], stack: &mut [Open], out: &mut [gm_listed_export], names: &mut [u8], batch: &mut gm_export_batch, error: &mut gm_error) -> u32);
         $with!(gmr_fat_entries(bytes: &[u8], first: usize, out: &mut [gm_fat_entry]) -> usize);
         $with!(gmr_fat_entries64(bytes: &[u8], first: usize, out: &mut [gm_fat_entry64]) -> usize);
         $with!(gmr_image_for(bytes: &[u8], cputype: u32, cpusubtype: u32, found: &mut gm_fat_entry64, error: &mut gm_error) -> u32);
+        $with!(gmr_command_fields(bytes: &[u8], image: &gm_image, command: &gm_command, first: usize, out: &mut [gm_command_field]) -> usize);
         $with!(gmr_find_export(bytes: &[u8], image: &gm_image, name: &[u8], export: &mut gm_export, library: &mut [u8], target: &mut [u8], error: &mut gm_error) -> u32);
         $with!(gmr_fixups(bytes: &[u8], image: &gm_image, cursor: &mut gm_fixup_cursor, out: &mut [gm_fixup], count: &mut usize, error: &mut gm_error) -> u32);
         $with!(gmr_ids(bytes: &[u8], image: &gm_image, first: usize, out: &mut [gm_id]) -> usize);

@@ -156,8 +156,14 @@ fn numbers_of(other: Option<Owner>) -> (u32, u64, u64) {
     }
 }
 
-// Returns a fault as C sees it.
-fn row_of(fault: &LayoutFault) -> gm_layout_fault {
+/// Returns a fault as C sees it.
+///
+/// <details><summary>Proved</summary>
+///
+/// - `result ≡ layout_row fault`
+///
+/// </details>
+pub fn row_of(fault: &LayoutFault) -> gm_layout_fault {
     let (other_part, other_command, other_index) = numbers_of(fault.other);
     gm_layout_fault {
         found: fault.found,

@@ -5,15 +5,19 @@
 
 mod archive;
 mod archive_find;
+mod audit;
 mod bindings;
 pub mod calls;
 mod commands;
 mod data_in_code;
+mod entitlement_items;
+mod entitlement_rows;
 mod entitlements;
 mod errors;
 mod exports;
 mod fat;
 mod fat64;
+mod fields;
 mod find;
 mod fixups;
 mod given_files;

@@ -160,8 +160,14 @@ pub struct gm_signature_fault {
     pub code: u32,
 }
 
-// Returns a fault of a kind, for the directory at a slot, without numbers.
-fn fault_row(kind: u32, slot: u32) -> gm_signature_fault {
+/// Returns a fault of a kind, for the directory at a slot, without numbers.
+///
+/// <details><summary>Proved</summary>
+///
+/// - `result ≡ rows.fault_row kind slot`
+///
+/// </details>
+pub fn fault_row(kind: u32, slot: u32) -> gm_signature_fault {
     gm_signature_fault {
         found: 0,
         limit: 0,
@@ -233,8 +239,14 @@ fn directory_row(slot: u32, fault: &DirectoryFault) -> gm_signature_fault {
     }
 }
 
-// Returns a fault as C sees it.
-fn row_of_fault(fault: &SignatureFault) -> gm_signature_fault {
+/// Returns a fault as C sees it.
+///
+/// <details><summary>Proved</summary>
+///
+/// - `result ≡ rows.signature_fault_row (signature_fault_view fault)`
+///
+/// </details>
+pub fn row_of_fault(fault: &SignatureFault) -> gm_signature_fault {
     match fault {
         SignatureFault::Blob { index, error } => gm_signature_fault {
             index: *index,

@@ -6,6 +6,7 @@ use crate::generated::goblin_mach_c::errors::{GM_OK, code_of};
 use crate::generated::goblin_mach_c::images::{ctx_of, gm_image};
 use crate::generated::goblin_mach_c::layout::from;
 use crate::generated::goblin_mach_c::rows::{Rows, fill};
+use crate::generated::mach_command_fields::before_zero;
 use goblin_mach::symbols::{Nlist, Nlist32, Nlist64, Symbols};
 use goblin_mach::{Container, Ctx, Error, Record, Result, SizeWith, read_text};
 
@@ -48,12 +49,6 @@ fn record_at(bytes: &[u8], place: usize, ctx: Ctx) -> Result<Nlist> {
         Container::Little => Ok(Nlist::from(Nlist32::read(bytes, place, ctx.le)?)),
         Container::Big => Ok(Nlist::from(Nlist64::read(bytes, place, ctx.le)?)),
     }
-}
-
-// Returns the bytes up to the first zero.
-fn before_zero(bytes: &[u8]) -> &[u8] {
-    let len = bytes.iter().position(|b| *b == 0).unwrap_or(bytes.len());
-    &bytes[..len]
 }
 
 // Returns how many bytes come before the first zero from a place on.

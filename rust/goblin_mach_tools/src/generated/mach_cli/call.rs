@@ -6,13 +6,14 @@ use alloc::vec::Vec;
 use goblin_mach::internals::shim::TryGrow;
 
 use crate::generated::mach_cli::color::Color;
-use crate::generated::mach_cli::cpu::{Arch, Cpu};
+use crate::generated::mach_cli::cpu::Cpu;
 use crate::generated::mach_cli::hexadecimal::{address_in, cputype_in};
 use crate::generated::mach_cli::misuse::Misuse;
 use crate::generated::mach_cli::named::Others;
 use crate::generated::mach_cli::options::{Format, Options, OwnOptions};
 use crate::generated::mach_cli::word::{NoText, Word};
 use goblin_mach::AllocError;
+use goblin_mach::names::Arch;
 
 /// The arguments of a call, after the program's name and the options.
 pub struct Call<'a, O> {
@@ -34,12 +35,21 @@ pub struct Call<'a, O> {
     pub others: Others<'a>,
 }
 
+/// A text that a program has about itself.
+#[derive(Clone, Copy)]
+pub enum Asked {
+    /// `-h`: the usage.
+    Usage,
+    /// `--help`: what the program is for, and each of its words and options.
+    Help,
+    /// `--version`: its name and version.
+    Version,
+}
+
 /// What the arguments of a call request.
 pub enum Request<'a, O> {
-    /// `--help`: print the usage.
-    Help,
-    /// `--version`: print the version.
-    Version,
+    /// A text about the program.
+    Asks(Asked),
     /// A run of the program, with its arguments.
     Call(Call<'a, O>),
     /// Nothing, because of this misuse.
@@ -62,8 +72,8 @@ enum Valued {
 enum Kind {
     // `--`: no argument after it is an option.
     Plain,
-    Help,
-    Version,
+    // An option that asks for a text about the program.
+    Asks(Asked),
     // `-0`: names in lists end with NUL.
     Nul,
     // An option that selects a form.
@@ -89,8 +99,9 @@ enum Untaken<'a> {
 fn kind_of(word: &str, options: Options) -> Kind {
     match word {
         "--" => Kind::Plain,
-        "-h" | "--help" => Kind::Help,
-        "--version" => Kind::Version,
+        "-h" => Kind::Asks(Asked::Usage),
+        "--help" => Kind::Asks(Asked::Help),
+        "--version" => Kind::Asks(Asked::Version),
         "-0" if options.has_files => Kind::Nul,
         "--json" if options.has_json => Kind::Form(Format::Json),
         "--quiet" if options.has_quiet => Kind::Form(Format::Quiet),
@@ -104,6 +115,17 @@ fn kind_of(word: &str, options: Options) -> Kind {
         _ if word.starts_with('-') => Kind::Own,
         _ => Kind::Other,
     }
+}
+
+/// Whether a program with these options has a shared one of this name.
+///
+/// <details><summary>Proved</summary>
+///
+/// - `result ≡ is_shared options name`
+///
+/// </details>
+pub fn is_shared(name: &str, options: Options) -> bool {
+    !matches!(kind_of(name, options), Kind::Other | Kind::Own)
 }
 
 // Returns the kind of an argument that is no option's value. After `--` it is no option.
@@ -293,8 +315,7 @@ fn read<'a, O: OwnOptions>(
         }
         match kind_at(is_plain, word.as_str(), options) {
             Kind::Plain => is_plain = true,
-            Kind::Help => return Ok(Request::Help),
-            Kind::Version => return Ok(Request::Version),
+            Kind::Asks(asked) => return Ok(Request::Asks(asked)),
             Kind::Nul => call.others.ends_with_nul = true,
             Kind::Form(format) => call.format = format,
             Kind::Valued(option) => before = Some(option),

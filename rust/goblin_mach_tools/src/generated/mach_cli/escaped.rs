@@ -2,6 +2,7 @@
 //! Names on one line, and bytes as hexadecimal digits.
 #![forbid(unsafe_code)]
 
+use crate::generated::mach_cli::digits::digit;
 use crate::shim::io;
 use crate::shim::io::Write;
 use core::fmt;
@@ -29,6 +30,19 @@ impl Display for EscapedBytes<'_> {
     }
 }
 
+// A text as it is written in a style.
+#[derive(Clone, Copy)]
+pub(crate) struct Written<'a> {
+    pub style: Style,
+    pub text: &'a str,
+}
+
+impl Display for Written<'_> {
+    fn fmt(&self, f: &mut Formatter<'_>) -> fmt::Result {
+        write_escaped(f, self.style, self.text)
+    }
+}
+
 // How a text is written.
 #[derive(Clone, Copy)]
 pub(crate) enum Style {
@@ -38,8 +52,30 @@ pub(crate) enum Style {
     Json,
 }
 
-// Writes a text. Runs of unescaped bytes are written whole.
+// Writes a text: at once if no byte of it needs a look at a whole character.
 pub(crate) fn write_escaped(f: &mut Formatter<'_>, style: Style, text: &str) -> fmt::Result {
+    if are_visible(style, text.as_bytes()) {
+        return f.write_str(text);
+    }
+    write_runs(f, style, text)
+}
+
+// Whether all bytes are visible ASCII and none is escaped. It looks at each, so that many are looked at at once.
+fn are_visible(style: Style, bytes: &[u8]) -> bool {
+    let mut are_visible = true;
+    for byte in bytes {
+        are_visible &= is_visible(style, *byte);
+    }
+    are_visible
+}
+
+// Whether a byte is visible ASCII that isn't escaped.
+fn is_visible(style: Style, byte: u8) -> bool {
+    (0x20 <= byte && byte <= 0x7e) && !is_quoted(style, byte)
+}
+
+// Writes a text. Runs of unescaped bytes are written whole.
+fn write_runs(f: &mut Formatter<'_>, style: Style, text: &str) -> fmt::Result {
     let bytes = text.as_bytes();
     let end = bytes.len();
     let mut start = 0;
@@ -210,15 +246,6 @@ fn hidden_char(bytes: &[u8]) -> u32 {
     }
 }
 
-// Returns the hexadecimal digit of a number.
-fn digit(number: u8) -> u8 {
-    if number < 10 {
-        b'0' + number
-    } else {
-        b'a' + (number - 10)
-    }
-}
-
 // Writes the escape of a byte at once: this takes a third of the time of `{:02x}`.
 fn write_byte(f: &mut Formatter<'_>, byte: u8) -> fmt::Result {
     let text = [b'\\', b'x', digit(byte / 16), digit(byte % 16)];
@@ -245,6 +272,15 @@ fn write_chunks(f: &mut Formatter<'_>, bytes: &[u8]) -> fmt::Result {
     Ok(())
 }
 
+// Prints a text as it is written in a style: at once if no byte of it needs a look at a whole character.
+pub(crate) fn print_written<O: Write>(style: Style, text: &str, out: &mut O) -> io::Result<()> {
+    if are_visible(style, text.as_bytes()) {
+        return out.write_all(text.as_bytes());
+    }
+    let text = Written { style, text };
+    write!(out, "{text}")
+}
+
 /// Prints a name on one line, as `Escaped` writes it.
 ///
 /// <details><summary>Proved</summary>
@@ -253,8 +289,7 @@ fn write_chunks(f: &mut Formatter<'_>, bytes: &[u8]) -> fmt::Result {
 ///
 /// </details>
 pub fn print_escaped<O: Write>(name: &str, out: &mut O) -> io::Result<()> {
-    let name = Escaped(name);
-    write!(out, "{name}")
+    print_written(Style::Name, name, out)
 }
 
 /// Prints bytes, two digits each.

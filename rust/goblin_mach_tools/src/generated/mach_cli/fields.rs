@@ -2,14 +2,18 @@
 //! What is shown of an item of a list, field by field: as a line of text, or as an object of JSON.
 #![forbid(unsafe_code)]
 
-use crate::generated::mach_cli::escaped::Escaped;
-use crate::generated::mach_cli::json::text::JsonString;
-use crate::generated::mach_cli::values::{SourceVersionText, UuidText, VersionText};
+use crate::generated::mach_cli::digits::{
+    print_decimal, print_hexadecimal, print_wide_hexadecimal,
+};
+use crate::generated::mach_cli::escaped::print_escaped;
+use crate::generated::mach_cli::json::text::print_string;
+use crate::generated::mach_cli::spaces::print_spaces;
 use crate::shim::io;
 use crate::shim::io::Write;
 use core::fmt;
 use core::fmt::{Display, Formatter};
 use goblin_mach::chained_fixups::PointerAuth;
+use goblin_mach::names::{SourceVersionText, UuidText, VersionText};
 
 /// The value of a field.
 #[derive(Clone, Copy)]
@@ -195,64 +199,42 @@ impl Display for FlagsText {
     }
 }
 
-// A value as a line has it.
-#[derive(Clone, Copy)]
-struct ValueText<'a>(Value<'a>);
-
-impl Display for ValueText<'_> {
-    fn fmt(&self, f: &mut Formatter<'_>) -> fmt::Result {
-        match self.0 {
-            Value::Number(number) => write!(f, "{number}"),
-            Value::Signed(number) => write!(f, "{number}"),
-            Value::Hex(number) => write!(f, "0x{number:x}"),
-            Value::Named(number, "") => write!(f, "{number}"),
-            Value::Named(_, name) => write_name(f, name),
-            Value::Text(text) => write_name(f, text),
-            Value::OptionalText(None) => f.write_str("-"),
-            Value::OptionalText(Some(text)) => write_name(f, text),
-            Value::Version(version) => {
-                let version = VersionText(version);
-                write!(f, "{version}")
-            }
-            Value::SourceVersion(version) => {
-                let version = SourceVersionText(version);
-                write!(f, "{version}")
-            }
-            Value::Uuid(uuid) => {
-                let uuid = UuidText(&uuid);
-                write!(f, "{uuid}")
-            }
-            Value::Flag { is_so, yes, no } => write_name(f, word_if(is_so, yes, no)),
-            Value::Flags {
+// Prints a value as a line has it.
+fn print_value<O: Write>(value: Value<'_>, out: &mut O) -> io::Result<()> {
+    match value {
+        Value::Number(number) => print_decimal(number, out),
+        Value::Signed(number) => write!(out, "{number}"),
+        Value::Hex(number) => print_hexadecimal(number, out),
+        Value::Named(number, "") => print_decimal(number, out),
+        Value::Named(_, name) => print_escaped(name, out),
+        Value::Text(text) => print_escaped(text, out),
+        Value::OptionalText(None) => out.write_all(b"-"),
+        Value::OptionalText(Some(text)) => print_escaped(text, out),
+        Value::Version(version) => {
+            let version = VersionText(version);
+            write!(out, "{version}")
+        }
+        Value::SourceVersion(version) => {
+            let version = SourceVersionText(version);
+            write!(out, "{version}")
+        }
+        Value::Uuid(uuid) => {
+            let uuid = UuidText(&uuid);
+            write!(out, "{uuid}")
+        }
+        Value::Flag { is_so, yes, no } => print_escaped(word_if(is_so, yes, no), out),
+        Value::Flags {
+            is_weak,
+            is_lazy,
+            auth,
+        } => {
+            let flags = FlagsText {
                 is_weak,
                 is_lazy,
                 auth,
-            } => {
-                let flags = FlagsText {
-                    is_weak,
-                    is_lazy,
-                    auth,
-                };
-                write!(f, "{flags}")
-            }
+            };
+            write!(out, "{flags}")
         }
-    }
-}
-
-// Writes a text on one line.
-fn write_name(f: &mut Formatter<'_>, text: &str) -> fmt::Result {
-    let text = Escaped(text);
-    write!(f, "{text}")
-}
-
-// So many spaces.
-#[derive(Clone, Copy)]
-struct Spaces(usize);
-
-impl Display for Spaces {
-    fn fmt(&self, f: &mut Formatter<'_>) -> fmt::Result {
-        let (nothing, width) = ("", self.0);
-        write!(f, "{nothing:width$}")
     }
 }
 
@@ -261,71 +243,45 @@ fn char_len(text: &str) -> usize {
     text.chars().count()
 }
 
-// A value as a column of at least so many characters has it.
-#[derive(Clone, Copy)]
-struct WideText<'a> {
-    value: Value<'a>,
-    width: usize,
-}
-
-impl Display for WideText<'_> {
-    fn fmt(&self, f: &mut Formatter<'_>) -> fmt::Result {
-        let width = self.width;
-        match self.value {
-            Value::Number(number) => write!(f, "{number:>width$}"),
-            Value::Hex(number) => {
-                let digits = width.saturating_sub(2);
-                write!(f, "0x{number:<digits$x}")
-            }
-            Value::Text(text) => {
-                let spaces = Spaces(width.saturating_sub(char_len(text)));
-                let text = Escaped(text);
-                write!(f, "{text}{spaces}")
-            }
-            value => {
-                let value = ValueText(value);
-                write!(f, "{value}")
-            }
+// Prints a value as a column of at least so many characters has it.
+fn print_wide<O: Write>(value: Value<'_>, width: usize, out: &mut O) -> io::Result<()> {
+    match value {
+        Value::Number(number) => write!(out, "{number:>width$}"),
+        Value::Hex(number) => print_wide_hexadecimal(number, width, out),
+        Value::Text(text) => {
+            print_escaped(text, out)?;
+            print_spaces(width.saturating_sub(char_len(text)), out)
         }
+        value => print_value(value, out),
     }
 }
 
-// A value as an object has it.
-#[derive(Clone, Copy)]
-struct ValueJson<'a>(Value<'a>);
-
-impl Display for ValueJson<'_> {
-    fn fmt(&self, f: &mut Formatter<'_>) -> fmt::Result {
-        match self.0 {
-            Value::Number(number) => write!(f, "{number}"),
-            Value::Signed(number) => write!(f, "{number}"),
-            Value::Hex(number) => write!(f, "{number}"),
-            Value::Named(number, _) => write!(f, "{number}"),
-            Value::Text(text) => write_string(f, text),
-            Value::OptionalText(None) => f.write_str("null"),
-            Value::OptionalText(Some(text)) => write_string(f, text),
-            Value::Version(version) => {
-                let version = VersionText(version);
-                write!(f, "\"{version}\"")
-            }
-            Value::SourceVersion(version) => {
-                let version = SourceVersionText(version);
-                write!(f, "\"{version}\"")
-            }
-            Value::Uuid(uuid) => {
-                let uuid = UuidText(&uuid);
-                write!(f, "\"{uuid}\"")
-            }
-            Value::Flag { is_so, .. } => write!(f, "{is_so}"),
-            Value::Flags { .. } => write!(f, "null"),
+// Prints a value as an object has it.
+fn print_in_object<O: Write>(value: Value<'_>, out: &mut O) -> io::Result<()> {
+    match value {
+        Value::Number(number) => print_decimal(number, out),
+        Value::Signed(number) => write!(out, "{number}"),
+        Value::Hex(number) => print_decimal(number, out),
+        Value::Named(number, _) => print_decimal(number, out),
+        Value::Text(text) => print_string(text, out),
+        Value::OptionalText(None) => out.write_all(b"null"),
+        Value::OptionalText(Some(text)) => print_string(text, out),
+        Value::Version(version) => {
+            let version = VersionText(version);
+            write!(out, "\"{version}\"")
         }
+        Value::SourceVersion(version) => {
+            let version = SourceVersionText(version);
+            write!(out, "\"{version}\"")
+        }
+        Value::Uuid(uuid) => {
+            let uuid = UuidText(&uuid);
+            write!(out, "\"{uuid}\"")
+        }
+        Value::Flag { is_so: true, .. } => out.write_all(b"true"),
+        Value::Flag { is_so: false, .. } => out.write_all(b"false"),
+        Value::Flags { .. } => out.write_all(b"null"),
     }
-}
-
-// Writes a text as a string of JSON.
-fn write_string(f: &mut Formatter<'_>, text: &str) -> fmt::Result {
-    let text = JsonString(text);
-    write!(f, "{text}")
 }
 
 /// How the fields of an item are written.
@@ -437,10 +393,10 @@ fn print_field<O: Write>(field: &Field<'_>, column: usize, out: &mut O) -> io::R
     if field.column != column {
         return Ok(());
     }
-    let space = if column == 1 { "" } else { " " };
-    let (value, width) = (field.value, field.width);
-    let value = WideText { value, width };
-    write!(out, "{space}{value}")
+    if column != 1 {
+        out.write_all(b" ")?;
+    }
+    print_wide(field.value, field.width, out)
 }
 
 // Prints each field that has no column after its name.
@@ -456,9 +412,10 @@ fn print_pair<O: Write>(field: &Field<'_>, out: &mut O) -> io::Result<()> {
     if field.column != 0 || field.name.is_empty() {
         return Ok(());
     }
-    let name = Escaped(field.name);
-    let value = ValueText(field.value);
-    write!(out, "  {name} {value}")
+    out.write_all(b"  ")?;
+    print_escaped(field.name, out)?;
+    out.write_all(b" ")?;
+    print_value(field.value, out)
 }
 
 // Prints the opening brace of an object, a first field as a member, and the next ones.
@@ -470,9 +427,10 @@ fn print_opened<O: Write>(first: &Field<'_>, next: &[Field<'_>], out: &mut O) ->
 
 // Prints a field as a member.
 fn print_member<O: Write>(field: &Field<'_>, out: &mut O) -> io::Result<()> {
-    let name = field.name;
-    let value = ValueJson(field.value);
-    write!(out, "\"{name}\":{value}")
+    out.write_all(b"\"")?;
+    out.write_all(field.name.as_bytes())?;
+    out.write_all(b"\":")?;
+    print_in_object(field.value, out)
 }
 
 // Prints a field as a member after a comma, if it has a name.

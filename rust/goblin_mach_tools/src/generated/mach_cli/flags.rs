@@ -4,45 +4,13 @@
 
 use crate::shim::io;
 use crate::shim::io::Write;
-
-/// A bit, and its name.
-#[derive(Clone, Copy)]
-pub struct FlagWord(pub u64, pub &'static str);
-
-// Returns the flags of a code directory.
-fn code_flags() -> [FlagWord; 10] {
-    [
-        FlagWord(0x1, "host"),
-        FlagWord(0x2, "adhoc"),
-        FlagWord(0x100, "force-hard"),
-        FlagWord(0x200, "force-kill"),
-        FlagWord(0x400, "force-expiration"),
-        FlagWord(0x800, "restrict"),
-        FlagWord(0x1000, "enforcement"),
-        FlagWord(0x2000, "library-validation"),
-        FlagWord(0x10000, "runtime"),
-        FlagWord(0x20000, "linker-signed"),
-    ]
-}
-
-// Returns the flags of an executable segment.
-fn segment_flags() -> [FlagWord; 7] {
-    [
-        FlagWord(0x1, "main-binary"),
-        FlagWord(0x10, "allow-unsigned"),
-        FlagWord(0x20, "debugger"),
-        FlagWord(0x40, "jit"),
-        FlagWord(0x80, "skip-library-validation"),
-        FlagWord(0x100, "can-load-cdhash"),
-        FlagWord(0x200, "can-exec-cdhash"),
-    ]
-}
+use goblin_mach::names::{FlagName, code_flags, executable_flags};
 
 /// Prints the flags of a code directory.
 ///
 /// <details><summary>Proved</summary>
 ///
-/// - if `Ok`: `Appends (O.contents out.old) (O.contents out.new) (worded_flags_text defined.code_flags flags)`
+/// - if `Ok`: `Appends (O.contents out.old) (O.contents out.new) (worded_flags_text named.code_flags flags)`
 ///
 /// </details>
 pub fn print_code_flags<O: Write>(flags: u32, out: &mut O) -> io::Result<()> {
@@ -53,15 +21,15 @@ pub fn print_code_flags<O: Write>(flags: u32, out: &mut O) -> io::Result<()> {
 ///
 /// <details><summary>Proved</summary>
 ///
-/// - if `Ok`: `Appends (O.contents out.old) (O.contents out.new) (worded_flags_text defined.segment_flags flags)`
+/// - if `Ok`: `Appends (O.contents out.old) (O.contents out.new) (worded_flags_text named.executable_flags flags)`
 ///
 /// </details>
 pub fn print_segment_flags<O: Write>(flags: u64, out: &mut O) -> io::Result<()> {
-    print_flags(flags, &segment_flags(), out)
+    print_flags(flags, &executable_flags(), out)
 }
 
 // Prints a number, and in parentheses the names of its bits, in order, and the bits without a name as one number.
-fn print_flags<O: Write>(flags: u64, words: &[FlagWord], out: &mut O) -> io::Result<()> {
+fn print_flags<O: Write>(flags: u64, words: &[FlagName], out: &mut O) -> io::Result<()> {
     write!(out, "0x{flags:x}")?;
     print_words(flags, words, out)?;
     print_end(flags, out)
@@ -97,21 +65,21 @@ fn is_clear(number: u64, bit: u64) -> bool {
 }
 
 // Prints the name of a bit, if it is set, and returns what is left.
-fn print_word<O: Write>(left: FlagsLeft, flag: &FlagWord, out: &mut O) -> io::Result<FlagsLeft> {
-    if is_clear(left.rest, flag.0) {
+fn print_word<O: Write>(left: FlagsLeft, flag: &FlagName, out: &mut O) -> io::Result<FlagsLeft> {
+    if is_clear(left.rest, flag.bit) {
         return Ok(left);
     }
-    let word = flag.1;
+    let word = flag.name;
     print_before(left.is_first, out)?;
     write!(out, "{word}")?;
     Ok(FlagsLeft {
         is_first: false,
-        rest: left.rest ^ flag.0,
+        rest: left.rest ^ flag.bit,
     })
 }
 
 // Prints the names of the bits that are set, and the bits without a name, after a parenthesis.
-fn print_words<O: Write>(flags: u64, words: &[FlagWord], out: &mut O) -> io::Result<()> {
+fn print_words<O: Write>(flags: u64, words: &[FlagName], out: &mut O) -> io::Result<()> {
     let mut left = FlagsLeft {
         is_first: true,
         rest: flags,

@@ -4,10 +4,8 @@
 
 use crate::generated::mach_cli::escaped::Escaped;
 use crate::generated::mach_cli::word::NoText;
-use crate::shim::strsim::osa_distance;
 use core::fmt;
 use core::fmt::{Display, Formatter};
-use goblin_mach::AllocError;
 
 /// What is wrong with the arguments of a call.
 #[derive(Clone, Copy)]
@@ -48,33 +46,17 @@ impl Display for Misuse<'_> {
 }
 
 impl<'a> Misuse<'a> {
-    // Returns the unknown word, if that is the misuse.
-    fn word(&self) -> Option<&'a str> {
+    /// Returns the unknown word, if that is the misuse.
+    ///
+    /// <details><summary>Proved</summary>
+    ///
+    /// - `text_in result ≡ unknown_in self`
+    ///
+    /// </details>
+    pub fn unknown(&self) -> Option<&'a str> {
         match self {
             Misuse::UnknownOption(word) | Misuse::UnknownWord(word) => Some(word),
             _ => None,
         }
     }
-
-    /// Returns the known word that was probably meant, if one is similar.
-    pub fn meant(&self, known: &[&'static str]) -> Result<Option<&'static str>, AllocError> {
-        match self.word() {
-            Some(word) => closest(word, known),
-            None => Ok(None),
-        }
-    }
-}
-
-// Returns the known word that takes the fewest edits to reach from a word, if these are no more than two; the first of several.
-fn closest(word: &str, known: &[&'static str]) -> Result<Option<&'static str>, AllocError> {
-    let mut found = None;
-    let mut fewest = 3;
-    for other in known {
-        let edits = osa_distance(word, other)?;
-        if edits < fewest {
-            fewest = edits;
-            found = Some(*other);
-        }
-    }
-    Ok(found)
 }

@@ -21,6 +21,12 @@ pub struct Others<'a> {
 
 impl Others<'_> {
     /// Whether there are none.
+    ///
+    /// <details><summary>Proved</summary>
+    ///
+    /// - `result ≡ ((length self.lists.items == 0) && (length self.no_texts.items == 0))`
+    ///
+    /// </details>
     pub fn is_empty(&self) -> bool {
         self.lists.is_empty() && self.no_texts.is_empty()
     }

@@ -2,13 +2,15 @@
 //! A program's call: its arguments and its files.
 #![forbid(unsafe_code)]
 
+use crate::shim::format_in;
 use crate::shim::rt::Eprint;
 use crate::shim::rt::HostRuntime;
 use alloc::vec::Vec;
 
-use crate::generated::mach_cli::call::{Call, Request, understand};
+use crate::generated::mach_cli::call::{Asked, Call, Request, understand};
 use crate::generated::mach_cli::color::Color;
 use crate::generated::mach_cli::complaint::{Complaint, Trouble};
+use crate::generated::mach_cli::flag::Help;
 use crate::generated::mach_cli::label::Label;
 use crate::generated::mach_cli::misuse::Misuse;
 use crate::generated::mach_cli::names::Names;
@@ -28,14 +30,20 @@ use goblin_mach::AllocError;
 pub struct Program {
     /// Its name, the prefix of its complaints.
     pub name: &'static str,
-    /// Its usage, which `--help` prints.
+    /// What it is for, in lines of at most 80 columns, as all that follows.
+    pub about: &'static str,
+    /// Its usage, which `-h` prints.
     pub usage: &'static str,
     /// What `--version` prints.
     pub version: &'static str,
     /// The shared options that it has.
     pub options: Options,
-    /// The words that it knows: its options and its commands.
-    pub known: &'static [&'static str],
+    /// Its words that are no options, a line each: the word, and in column 28 what it does.
+    pub words: &'static str,
+    /// Its own options, a line each. A shared option may have a line here, too, if it does something else in this program.
+    pub flags: &'static str,
+    /// Some calls, a line each.
+    pub examples: &'static str,
 }
 
 /// Standard output: coloured or not, without control characters if it is a terminal, and with titles.
@@ -62,7 +70,8 @@ impl Program {
     ///
     /// <details><summary>Proved</summary>
     ///
-    /// - *selected*: if `Ok(call)`: `Selects O.taken self.options None (empty_call own) (drop 1 words) (call_view call)`
+    /// - *selected*: if `Ok(call)`: `Selects O.taken self.options own (drop 1 words) (call_view call)`
+    /// - *answered*: if `Err(status)`: if `status ≡ 0`, there is `asked : Asked` with: `AsksFor O.taken self.options own (drop 1 words) asked`
     /// - *unread*: if `Err(e)`: `IsStatus e`
     ///
     /// </details>
@@ -73,8 +82,7 @@ impl Program {
         words: &'a [Word],
     ) -> Result<Call<'a, O>, u8> {
         match understand(self.options, own, after_first(words)) {
-            Ok(Request::Help) => Err(self.say(rt, self.usage)),
-            Ok(Request::Version) => Err(self.say(rt, self.version)),
+            Ok(Request::Asks(asked)) => Err(self.answer(rt, asked)),
             Ok(Request::Call(call)) => Ok(call),
             Ok(Request::Nothing(misuse)) => Err(self.bad_usage(rt, misuse)),
             Err(AllocError) => Err(self.out_of_memory(rt)),
@@ -86,7 +94,10 @@ impl Program {
     ///
     /// <details><summary>Proved</summary>
     ///
-    /// - if `Err(status)`: `status ≡ 1`
+    /// - *status*: if `Err(status)`: `status ≡ 1`
+    /// - *json*: if `is_json format ≡ true`, if `Ok(out)`: `is_colouring (painter_in out) ≡ false`
+    /// - *never*: if `color ≡ Color.Never`, if `Ok(out)`: `is_colouring (painter_in out) ≡ false`
+    /// - *always*: if `color ≡ Color.Always`, if `is_json format ≡ false`, if `Ok(out)`: `is_colouring (painter_in out) ≡ true`
     ///
     /// </details>
     pub fn output<'r>(
@@ -101,6 +112,27 @@ impl Program {
             return Err(self.out_of_memory(rt));
         };
         Ok(out)
+    }
+
+    // Returns a text about the program, if it is written down as it is printed.
+    fn text_of(&self, asked: Asked) -> Option<&'static str> {
+        match asked {
+            Asked::Usage => Some(self.usage),
+            Asked::Version => Some(self.version),
+            Asked::Help => None,
+        }
+    }
+
+    // Prints a text about the program, and returns the exit status.
+    fn answer(&self, rt: &HostRuntime, asked: Asked) -> u8 {
+        if let Some(text) = self.text_of(asked) {
+            return self.say(rt, text);
+        }
+        let help = Help(*self);
+        match format_in!("{help}") {
+            Ok(text) => self.say(rt, text.as_str()),
+            Err(AllocError) => self.out_of_memory(rt),
+        }
     }
 
     // Prints a text, and returns the exit status.
@@ -157,7 +189,7 @@ impl Program {
     ///
     /// </details>
     pub fn bad_usage(&self, rt: &HostRuntime, misuse: Misuse<'_>) -> u8 {
-        let meant = misuse.meant(self.known).unwrap_or(None);
+        let meant = self.meant(misuse);
         self.complain(rt, Trouble::Misused(misuse, meant));
         let _ = rt.eprint(self.usage);
         2

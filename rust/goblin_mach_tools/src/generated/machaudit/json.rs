@@ -9,14 +9,13 @@ use crate::generated::mach_cli::entries::{OutOfFile, outside_at};
 use crate::generated::mach_cli::{JsonString, Refusal, comma_before};
 use crate::generated::machaudit::json::fault::NoImage;
 use crate::generated::machaudit::json::part::{Unreported, write_layout, write_part, write_parts};
-use crate::generated::machaudit::report::{
-    ArchiveReport, EntryReport, FatReport, ImageReport, MemberReport, Report,
-};
 use crate::generated::machaudit::source::{Source, refusal_of_image};
-use crate::generated::machaudit::verdict::Verdict;
 use crate::shim::io;
 use crate::shim::io::Write;
 use goblin_mach::archive::Member;
+use goblin_mach::audit::{
+    ArchiveReport, EntryReport, FatReport, ImageReport, MemberReport, Report, Soundness,
+};
 use goblin_mach::describe;
 use goblin_mach::fat::FatArch;
 
@@ -223,11 +222,11 @@ fn kind_of(report: &Report<'_>) -> &'static str {
 }
 
 // Whether no fault was found, but a list has more items than the limit.
-fn is_unended(verdict: Verdict) -> bool {
-    matches!(verdict, Verdict::Unended)
+fn is_unended(verdict: Soundness) -> bool {
+    matches!(verdict, Soundness::Unended)
 }
 
 // Whether the file is sound.
-fn is_sound(verdict: Verdict) -> bool {
-    matches!(verdict, Verdict::Sound)
+fn is_sound(verdict: Soundness) -> bool {
+    matches!(verdict, Soundness::Sound)
 }

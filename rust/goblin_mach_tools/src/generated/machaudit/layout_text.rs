@@ -2,9 +2,9 @@
 //! Faults of layout, the first ten of each rule.
 #![forbid(unsafe_code)]
 
-use crate::generated::machaudit::tally::MOST_REPORTED;
 use crate::shim::io;
 use crate::shim::io::Write;
+use goblin_mach::audit::MOST_REPORTED;
 use goblin_mach::layout::{LayoutFault, Rule};
 
 /// How many faults of each rule were met.

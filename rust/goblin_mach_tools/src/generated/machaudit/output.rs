@@ -6,16 +6,14 @@ use crate::generated::mach_cli::entries::OutOfFile;
 use crate::generated::mach_cli::{
     Escaped, Format, Label, Names, Refusal, ShowFailure, complain, refused_kind,
 };
-use crate::generated::machaudit::audit::audit;
 use crate::generated::machaudit::json::print_object;
 use crate::generated::machaudit::options::Options;
-use crate::generated::machaudit::report::Report;
 use crate::generated::machaudit::source::Source;
 use crate::generated::machaudit::text::print_report;
-use crate::generated::machaudit::verdict::Verdict;
 use crate::shim::io;
 use crate::shim::io::{BufWriter, Write};
 use goblin_mach::Error;
+use goblin_mach::audit::{Report, Soundness, audit_mach};
 
 /// The program's name.
 pub const NAME: &str = "machaudit";
@@ -45,7 +43,7 @@ pub struct Call<'a> {
 /// - *sound*: if `Ok(status)`: if `status ≡ 0`, `IsSound bytes`
 /// - *whole*: if `Ok(status)`: if `status ≡ 0`, if `IsLong call.entry.options.limit bytes`, `⊥`
 /// - *faulty*: if `Ok(status)`: if `status ≡ 1`, `(IsSound bytes → ⊥) ⊎ IsLong call.entry.options.limit bytes`
-/// - *quiet*: if `Ok(status)`: if `call.entry.options.format ≡ formats.Quiet`, there is `v : Verdict` with: `(status ≡ status_of v) × Judges (IsSound bytes) (IsLong call.entry.options.limit bytes) v × IsOneLine (quiet_line call.entry.name v) × Appends (writer_contents W.contents out.old) (writer_contents W.contents out.new) (quiet_line call.entry.name v)`
+/// - *quiet*: if `Ok(status)`: if `call.entry.options.format ≡ formats.Quiet`, there is `v : Soundness` with: `(status ≡ status_of v) × Judges (IsSound bytes) (IsLong call.entry.options.limit bytes) v × IsOneLine (quiet_line call.entry.name v) × Appends (writer_contents W.contents out.old) (writer_contents W.contents out.new) (quiet_line call.entry.name v)`
 /// - *flushed*: if `Ok`: `writer_buffer out.new ≡ []`
 /// - *message*: if `Ok`: `SaysForeign call.entry.outside call.entry.name bytes (E.contents err.old) (E.contents err.new)`
 ///
@@ -56,7 +54,7 @@ pub fn run<W: Write, E: Write>(
     out: &mut BufWriter<W>,
     err: &mut E,
 ) -> Result<u8, ShowFailure> {
-    let Ok(report) = audit(bytes, call.options.limit) else {
+    let Ok(report) = audit_mach(bytes, call.options.limit) else {
         return Err(ShowFailure::Memory);
     };
     write_report(call, bytes, &report, out)?;
@@ -119,10 +117,10 @@ pub fn refuse<E: Write>(file: &str, refusal: Refusal<'_>, err: &mut E) -> u8 {
 }
 
 // Returns the exit status of a verdict.
-fn status(verdict: Verdict) -> u8 {
+fn status(verdict: Soundness) -> u8 {
     match verdict {
-        Verdict::Sound => 0,
-        Verdict::Unended | Verdict::Faulty => 1,
+        Soundness::Sound => 0,
+        Soundness::Unended | Soundness::Faulty => 1,
     }
 }
 
@@ -162,7 +160,7 @@ fn print<O: Write>(
 }
 
 // Prints the line of a file: whether it is sound.
-fn print_verdict<O: Write>(name: &str, verdict: Verdict, out: &mut O) -> io::Result<()> {
+fn print_verdict<O: Write>(name: &str, verdict: Soundness, out: &mut O) -> io::Result<()> {
     let name = Escaped(name);
     writeln!(out, "{name}: {verdict}")
 }

@@ -9,11 +9,21 @@ use alloc::vec::Vec;
 use crate::generated::mach_cli::entries::outside_at;
 use crate::generated::mach_cli::{Cpu, Names, Refusal, ShowFailure};
 use crate::generated::machaudit::output::{Call, NAME, refuse, run};
-use crate::generated::machaudit::overlaid::entries_within;
 use crate::shim::io::{BufWriter, Write};
 use goblin_mach::AllocError;
 use goblin_mach::fat::FatArch;
+use goblin_mach::internals::mach_audit::{Selection, entries_within};
 use goblin_mach::{Error, Mach, MachO, MultiArch};
+
+// Selects the entries for a cpu.
+#[derive(Clone, Copy)]
+struct ForCpu(Cpu);
+
+impl Selection<FatArch> for ForCpu {
+    fn takes_entry(&self, arch: &FatArch) -> bool {
+        self.0.takes_entry(arch)
+    }
+}
 
 // What of a file is selected.
 enum Selected {
@@ -99,7 +109,7 @@ fn run_within<W: Write, E: Write>(
     out: &mut BufWriter<W>,
     err: &mut E,
 ) -> Result<u8, ShowFailure> {
-    let most = entries_within(cpu, archs.len(), bytes, archs);
+    let most = entries_within(&ForCpu(cpu), archs.len(), bytes, archs);
     let status = run_entries(cpu, call, bytes, &archs[..most], out, err)?;
     if most < archs.len() {
         return Ok(left_out(call.name, archs.len() - most, err));

@@ -2,10 +2,10 @@
 //! The text of an image's signature.
 #![forbid(unsafe_code)]
 
-use crate::generated::machaudit::report::{SignaturePart, SignatureReport};
 use crate::shim::io;
 use crate::shim::io::Write;
 use core::fmt;
+use goblin_mach::audit::{SignaturePart, SignatureReport};
 use goblin_mach::describe;
 use goblin_mach::signature::{CodeFault, DirectoryFault, SignatureFault, SlotName, SpecialFault};
 

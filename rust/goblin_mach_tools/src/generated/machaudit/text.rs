@@ -5,50 +5,20 @@
 use crate::generated::mach_cli::entries::{OutOfFile, outside_at};
 use crate::generated::mach_cli::{Escaped, Refusal};
 use crate::generated::machaudit::layout_text::print_layout;
-use crate::generated::machaudit::report::{
-    ArchiveReport, EntryReport, FatReport, FaultPlace, Finding, ImageReport, ItemList,
-    MemberReport, PartReport, Parts, Records, Report,
-};
 use crate::generated::machaudit::signature_text::print_signature;
 use crate::generated::machaudit::source::{Source, refusal_of_image};
-use crate::generated::machaudit::verdict::Verdict;
 use crate::shim::io;
 use crate::shim::io::Write;
-use core::fmt;
 use goblin_mach::archive::Member;
+use goblin_mach::audit::{
+    ArchiveReport, EntryReport, FatReport, ImageReport, ItemFault, MemberReport, PartReport, Parts,
+    Records, Report,
+};
 use goblin_mach::describe;
 use goblin_mach::fat::FatArch;
 
-impl fmt::Display for FaultPlace {
-    fn fmt(&self, f: &mut fmt::Formatter<'_>) -> fmt::Result {
-        let index = self.index;
-        match self.list {
-            ItemList::Sections(segment) => write!(f, "segment {segment}, section {index}"),
-            ItemList::Relocations(segment, section) => write!(
-                f,
-                "segment {segment}, section {section}, relocation {index}"
-            ),
-            ItemList::Symbols => write!(f, "symbol {index}"),
-            ItemList::Exports => write!(f, "export {index}"),
-            ItemList::Imports => write!(f, "import {index}"),
-            ItemList::Fixups => write!(f, "fixup {index}"),
-            ItemList::Bindings => write!(f, "binding {index}"),
-        }
-    }
-}
-
-impl fmt::Display for Verdict {
-    fn fmt(&self, f: &mut fmt::Formatter<'_>) -> fmt::Result {
-        match self {
-            Verdict::Sound => write!(f, "sound"),
-            Verdict::Unended => write!(f, "not sound: limit met"),
-            Verdict::Faulty => write!(f, "not sound"),
-        }
-    }
-}
-
 // Prints the reported faults of a part.
-fn print_findings<O: Write>(name: &str, reported: &[Finding], out: &mut O) -> io::Result<()> {
+fn print_findings<O: Write>(name: &str, reported: &[ItemFault], out: &mut O) -> io::Result<()> {
     for finding in reported {
         let place = finding.place;
         writeln!(out, "  {name}: {place}: {}", describe(&finding.error))?;

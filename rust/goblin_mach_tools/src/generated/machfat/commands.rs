@@ -4,8 +4,10 @@
 
 use crate::generated::mach_cli::output::failed;
 use crate::generated::mach_cli::{Names, most_items};
+use crate::generated::machfat::created::WholeFile;
 use crate::generated::machfat::entry::{entry_bytes, list};
-use crate::generated::machfat::new_file::place_file;
+use crate::generated::machfat::made::one_file;
+use crate::generated::machfat::new_file::{is_same_file, place_file};
 use crate::generated::machfat::permissions::NewMode;
 use crate::generated::machfat::refusal::{Refusal, WriteFailure};
 use crate::shim::io::{BufWriter, Write};
@@ -70,12 +72,14 @@ pub fn reported<W: Write, E: Write>(
 /// Writes an entry to a file.
 ///
 /// Returns the exit status. It is 0 if the file was written. It is 1 if there is no such entry, or an allocation is refused, and
-/// then `err` has a line that says why. It is 2 or 141 if the file can't be written. The file is written whole, or unchanged.
+/// then `err` has a line that says why. It is 2 if the fat file is the target. It is 2 or 141 if the target can't be written. The
+/// target is written whole, or unchanged.
 ///
 /// <details><summary>Proved</summary>
 ///
 /// - *status*: `IsStatus result`
 /// - *extracted*: if `result ≡ 0`, there is `entry : List ℕ` with: `(indexed_entry_in bytes index ≡ Ok entry) × WasWritten R.File.contents entry`
+/// - *apart*: if `result ≡ 0`, `IsOther file target`
 /// - *refused*: if `result ≡ 1`, there is `refusal : Refusal` with: `Refuses bytes (indexed_entry_in bytes index) refusal × Appends (E.contents err.old) (E.contents err.new) (refusal_line file refusal)`
 ///
 /// </details>
@@ -87,6 +91,9 @@ pub fn run_extract<R: Files, E: Write>(
     target: &str,
     err: &mut E,
 ) -> u8 {
+    if is_same_file(files, file, target) {
+        return one_file(file, target, err);
+    }
     let mode = NewMode::as_file(files, file);
     status(
         extract(files, mode, bytes, index, target),
@@ -103,7 +110,7 @@ fn extract<R: Files>(
     bytes: &[u8],
     index: usize,
     target: &str,
-) -> Result<R::File, WriteFailure> {
+) -> Result<WholeFile<R::File>, WriteFailure> {
     let entry = entry_bytes(bytes, index)?;
     place_file(files, mode, entry, target)
 }

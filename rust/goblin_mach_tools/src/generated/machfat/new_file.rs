@@ -5,11 +5,11 @@
 use crate::shim::format_in;
 use alloc::string::String;
 
+use crate::generated::machfat::created::{NewFile, WholeFile, create, fill};
 use crate::generated::machfat::permissions::NewMode;
 use crate::generated::machfat::refusal::WriteFailure;
 use crate::shim::fs::MetadataExt;
-use crate::shim::fs::OpenFile;
-use crate::shim::io::{ErrorKind, Write};
+use crate::shim::io::ErrorKind;
 use crate::shim::rt::Files;
 use crate::shim::{fs, io};
 
@@ -84,7 +84,7 @@ fn is_one_node(here: Option<Node>, there: Option<Node>) -> bool {
 ///
 /// <details><summary>Proved</summary>
 ///
-/// - *written*: if `Ok(file)`: `TookLast R.File.contents file bytes`
+/// - *written*: if `Ok(whole)`: `TookInAll R.File.contents whole bytes`
 /// - *refused*: if `Err(e)`: `IsRefusal IsWant e`
 ///
 /// </details>
@@ -93,13 +93,13 @@ pub fn place_file<R: Files>(
     mode: NewMode,
     bytes: &[u8],
     target: &str,
-) -> Result<R::File, WriteFailure> {
+) -> Result<WholeFile<R::File>, WriteFailure> {
     if !is_free(files, target) {
         return Err(taken());
     }
-    let (name, file) = new_file(files, mode, target)?;
-    match complete(files, mode, bytes, file, name.as_str(), target) {
-        Ok(file) => Ok(file),
+    let (name, new) = new_file(files, mode, target)?;
+    match complete(files, mode, bytes, new, name.as_str(), target) {
+        Ok(whole) => Ok(whole),
         Err(failure) => {
             let _ = fs::remove_file(files, name.as_str());
             Err(failure)
@@ -120,11 +120,11 @@ fn new_file<R: Files>(
     files: &R,
     mode: NewMode,
     path: &str,
-) -> Result<(String, R::File), WriteFailure> {
+) -> Result<(String, NewFile<R::File>), WriteFailure> {
     for number in 0..NAMES {
         let name = format_in!("{path}.{number}.part")?;
-        match mode.create(files, name.as_str()) {
-            Ok(file) => return Ok((name, file)),
+        match create(files, mode, name.as_str()) {
+            Ok(new) => return Ok((name, new)),
             Err(error) if error.kind() == ErrorKind::AlreadyExists => {}
             Err(error) => return Err(WriteFailure::Unwritten(error)),
         }
@@ -137,25 +137,16 @@ fn taken() -> WriteFailure {
     WriteFailure::Unwritten(io::Error::from(ErrorKind::AlreadyExists))
 }
 
-// Writes bytes to a file, and syncs it to the disk.
-fn fill<F: Write + OpenFile>(bytes: &[u8], file: &mut F) -> Result<(), WriteFailure> {
-    file.write_all(bytes)?;
-    file.flush()?;
-    file.sync_all()?;
-    Ok(())
-}
-
 // Gives a new file its permissions, writes bytes to it, and nothing else, and gives it the name of the target. Returns the file.
 fn complete<R: Files>(
     files: &R,
     mode: NewMode,
     bytes: &[u8],
-    mut file: R::File,
+    new: NewFile<R::File>,
     name: &str,
     target: &str,
-) -> Result<R::File, WriteFailure> {
-    mode.set(&file)?;
-    fill(bytes, &mut file)?;
+) -> Result<WholeFile<R::File>, WriteFailure> {
+    let whole = fill(new, mode, bytes)?;
     fs::rename(files, name, target)?;
-    Ok(file)
+    Ok(whole)
 }

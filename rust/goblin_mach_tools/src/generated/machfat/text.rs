@@ -2,12 +2,13 @@
 //! What a line and an object have of a record of a fat file, and the cpu of an image.
 #![forbid(unsafe_code)]
 
-use crate::generated::mach_cli::{Escaped, Field, FieldsForm, Value, cpu_name, entry_kind};
+use crate::generated::mach_cli::{Escaped, Field, FieldsForm, Value, entry_kind};
 use crate::generated::machfat::image_kind::image_words;
 use crate::shim::io;
 use crate::shim::io::Write;
 use core::fmt;
 use core::fmt::{Display, Formatter};
+use goblin_mach::names::cpu_name;
 use goblin_mach::write::EntryRecord;
 
 // The units of sizes, in bytes.

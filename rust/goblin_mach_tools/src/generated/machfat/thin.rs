@@ -2,8 +2,9 @@
 //! Writes an entry of a fat file, selected by its cpu.
 #![forbid(unsafe_code)]
 
-use crate::generated::mach_cli::{Arch, Cpu, cputype_in};
+use crate::generated::mach_cli::{Cpu, cputype_in};
 use crate::generated::machfat::commands::status;
+use crate::generated::machfat::created::WholeFile;
 use crate::generated::machfat::made::one_file;
 use crate::generated::machfat::new_file::{is_same_file, place_file};
 use crate::generated::machfat::outside::refused_entries;
@@ -11,6 +12,7 @@ use crate::generated::machfat::permissions::NewMode;
 use crate::generated::machfat::refusal::{Refusal, WriteFailure};
 use crate::shim::io::Write;
 use crate::shim::rt::Files;
+use goblin_mach::names::Arch;
 use goblin_mach::write::{EntryRecord, EntryRefusal, fat_records};
 
 /// Returns the cpu that a word says, by its number or by its name.
@@ -100,7 +102,7 @@ fn thin<R: Files>(
     bytes: &[u8],
     cpu: Cpu,
     target: &str,
-) -> Result<R::File, WriteFailure> {
+) -> Result<WholeFile<R::File>, WriteFailure> {
     let entry = entry_of_cpu(bytes, cpu)?;
     place_file(files, mode, entry, target)
 }

@@ -3,8 +3,8 @@
 #![forbid(unsafe_code)]
 
 use crate::generated::mach_cli::{
-    Escaped, Field, FieldsForm, Line, Value, diverse_by, diversity_by, has_auth, key_by,
-    rebase_type,
+    Field, FieldsForm, Line, Value, diverse_by, diversity_by, has_auth, key_by, print_escaped,
+    print_hexadecimal, rebase_type,
 };
 use crate::generated::machfixups::row::{Action, Bind, Location, Row};
 use crate::generated::machfixups::target_symbols::TargetSymbol;
@@ -288,8 +288,10 @@ pub fn write_row<F: FieldsForm, O: Write>(row: &Row<'_, '_>, out: &mut O) -> io:
 fn write_symbol<O: Write>(symbol: &Option<TargetSymbol<'_>>, out: &mut O) -> io::Result<()> {
     match symbol {
         Some(symbol) => {
-            let (name, distance) = (Escaped(symbol.name), symbol.distance);
-            write!(out, " {name}+0x{distance:x}")
+            out.write_all(b" ")?;
+            print_escaped(symbol.name, out)?;
+            out.write_all(b"+")?;
+            print_hexadecimal(symbol.distance, out)
         }
         None => Ok(()),
     }

@@ -2,13 +2,13 @@
 //! What the program prints of an image.
 #![forbid(unsafe_code)]
 
-use crate::generated::mach_cli::{AllStretches, ImageView, Outcome, ShowFailure, print_listing};
+use crate::generated::mach_cli::{ImageView, Outcome, ShowFailure, print_listing};
 use crate::generated::machfixups::headed::Headed;
 use crate::generated::machfixups::lists::ImageRows;
 use crate::generated::machfixups::rows::Selection;
 use crate::generated::machfixups::target_symbols::TargetSymbols;
 use crate::shim::io::Write;
-use goblin_mach::MachO;
+use goblin_mach::{AllStretches, MachO};
 
 // The line above the rows of an image.
 const HEADING: &str =

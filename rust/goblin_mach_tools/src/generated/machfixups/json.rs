@@ -2,13 +2,13 @@
 //! What the program writes of an image as JSON.
 #![forbid(unsafe_code)]
 
-use crate::generated::mach_cli::{AllStretches, ImageView, Outcome, ShowFailure};
+use crate::generated::mach_cli::{ImageView, Outcome, ShowFailure};
 use crate::generated::machfixups::lists::ImageRows;
 use crate::generated::machfixups::members::write_members;
 use crate::generated::machfixups::rows::Selection;
 use crate::generated::machfixups::target_symbols::TargetSymbols;
 use crate::shim::io::Write;
-use goblin_mach::MachO;
+use goblin_mach::{AllStretches, MachO};
 
 /// The objects of the selected lists.
 #[derive(Clone, Copy)]

@@ -2,7 +2,7 @@
 //! The lists of an image's rebases, binds and fixups, of which a line or an object has the fields of each row.
 #![forbid(unsafe_code)]
 
-use crate::generated::mach_cli::{AllStretches, FieldsForm, ItemList, Listing};
+use crate::generated::mach_cli::{FieldsForm, ItemList, Listing};
 use crate::generated::machfixups::fields::{write_line, write_row};
 use crate::generated::machfixups::kept_fixups::{KeptFixups, KindsOfLists};
 use crate::generated::machfixups::row::Row;
@@ -11,8 +11,8 @@ use crate::generated::machfixups::stored_pointers::StoredPointers;
 use crate::generated::machfixups::target_symbols::TargetSymbols;
 use crate::shim::io;
 use crate::shim::io::Write;
-use goblin_mach::MachO;
 use goblin_mach::chained_fixups::ChainedFixups;
+use goblin_mach::{AllStretches, MachO};
 
 impl<'p, 'a> ItemList for Rows<'p, 'a, '_> {
     type Item = Row<'p, 'a>;

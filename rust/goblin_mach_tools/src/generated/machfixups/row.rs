@@ -3,12 +3,14 @@
 #![forbid(unsafe_code)]
 
 use crate::generated::mach_cli::{
-    AllStretches, SegmentStretches, ordinal_of, origin_of, provider_name,
+    ordinal_of, origin_of, provider_name, section_name_with, stretch_name,
 };
 use crate::generated::machfixups::stored_pointers::{StoredPointers, raw_of};
 use crate::generated::machfixups::target_symbols::{TargetSymbol, TargetSymbols};
 use goblin_mach::chained_fixups::{ChainedFixups, ChainedImport, Fixup, FixupKind, PointerAuth};
-use goblin_mach::{Binding, Error, Rebase, RebaseKind, Result, WeakBind};
+use goblin_mach::{
+    AllStretches, Binding, Error, Rebase, RebaseKind, Result, SegmentStretches, WeakBind,
+};
 
 /// An address.
 #[derive(Clone, Copy)]
@@ -72,8 +74,8 @@ fn place_in<'b>(part: Option<&'b SegmentStretches>, address: u64) -> Location<'b
     match part {
         Some(part) => Location {
             address,
-            segment: Some(part.name()),
-            section: part.section_with(address),
+            segment: Some(stretch_name(&part.memory)),
+            section: section_name_with(part, address),
         },
         None => Location {
             address,

@@ -2,13 +2,14 @@
 //! The lists of an image's rebases, binds and fixups, as rows.
 #![forbid(unsafe_code)]
 
-use crate::generated::mach_cli::AllStretches;
 use crate::generated::machfixups::kept_fixups::{KeptFixups, KindsOfLists, ShownKinds};
 use crate::generated::machfixups::row::{Row, binding_row, fixup_row, rebase_row, weak_row};
 use crate::generated::machfixups::stored_pointers::StoredPointers;
 use crate::generated::machfixups::target_symbols::TargetSymbols;
 use goblin_mach::chained_fixups::ChainedFixups;
-use goblin_mach::{OpcodeBindingIterator, OpcodeRebaseIterator, Result, WeakBindIterator};
+use goblin_mach::{
+    AllStretches, OpcodeBindingIterator, OpcodeRebaseIterator, Result, WeakBindIterator,
+};
 
 /// Which lists are selected.
 #[derive(Clone, Copy)]

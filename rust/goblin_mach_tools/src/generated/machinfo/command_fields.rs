@@ -4,8 +4,7 @@
 
 use crate::generated::mach_cli::{Field, FieldsForm, Value, name_in_field};
 use crate::generated::machinfo::commands::NumberedCommand;
-use crate::generated::machinfo::segments::rights_name;
-use crate::generated::machinfo::text::platform_name;
+use crate::generated::machinfo::text::platform_word;
 use crate::shim::io;
 use crate::shim::io::Write;
 use goblin_mach::load_command::{
@@ -18,6 +17,7 @@ use goblin_mach::load_command::{
     SymtabCommand, TargetTripleCommand, ThreadCommand, TwolevelHintsCommand, UuidCommand,
     VersionMinCommand, command_name,
 };
+use goblin_mach::names::rights_name;
 use goblin_mach::read_text;
 
 /// Writes the fields of a command in a form: its number, its offset, its size and its name, and then those of its record.
@@ -86,7 +86,7 @@ pub fn named<'a>(number: u32, name: &'static str, unknown: &'static str) -> Valu
 
 // Returns the number of a platform by its name.
 fn platform<'a>(number: u32) -> Value<'a> {
-    named(number, platform_name(number), "unknown")
+    named(number, platform_word(number), "unknown")
 }
 
 /// Returns a protection by its letters.

@@ -2,14 +2,13 @@
 //! The rows of the summary's lists, as lines and as objects of JSON.
 #![forbid(unsafe_code)]
 
-use crate::generated::mach_cli::{
-    Escaped, FieldsForm, JsonString, Line, Listing, Object, UuidText, VersionText,
-};
+use crate::generated::mach_cli::{Escaped, FieldsForm, JsonString, Line, Listing, Object};
 use crate::generated::machinfo::fields::write_library;
 use crate::generated::machinfo::text::{PlatformObject, PlatformText, ToolText};
 use crate::shim::io;
 use crate::shim::io::Write;
 use goblin_mach::audit::{Fact, FactList};
+use goblin_mach::names::{UuidText, VersionText};
 use goblin_mach::{Library, Result};
 
 /// The rows of a list as lines.

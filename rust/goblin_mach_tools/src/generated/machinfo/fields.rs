@@ -10,7 +10,7 @@ use crate::generated::machinfo::notes::NumberedNote;
 use crate::generated::machinfo::part_fields::write_part;
 use crate::generated::machinfo::providers::Provided;
 use crate::generated::machinfo::row::Row;
-use crate::generated::machinfo::text::tool_name;
+use crate::generated::machinfo::text::tool_word;
 use crate::shim::io;
 use crate::shim::io::Write;
 use goblin_mach::audit::Finding;
@@ -117,7 +117,7 @@ fn tool_fields(number: usize, tool: BuildToolVersion) -> [Field<'static>; 4] {
         Field::new("command", Value::Number(number as u64), 1),
         Field::new(
             "tool",
-            Value::Named(u64::from(tool.tool), tool_name(tool.tool)),
+            Value::Named(u64::from(tool.tool), tool_word(tool.tool)),
             2,
         ),
         Field::of_object("version", Value::Number(u64::from(tool.version))),

@@ -3,13 +3,13 @@
 #![forbid(unsafe_code)]
 
 use crate::generated::mach_cli::{
-    AllStretches, Field, FieldsForm, ItemList, SegmentStretches, Value, ordinal_of, provider_name,
+    Field, FieldsForm, ItemList, Value, ordinal_of, provider_name, section_name_with, stretch_name,
 };
 use crate::generated::machinfo::fields::{column_if, flag_field};
 use crate::generated::machinfo::part_fields::text_or_dash;
 use crate::shim::io;
 use crate::shim::io::Write;
-use goblin_mach::{Binding, BindingIterator, Result};
+use goblin_mach::{AllStretches, Binding, BindingIterator, Result, SegmentStretches};
 
 /// A bind, with the segment and the section of its pointer.
 #[derive(Clone, Copy)]
@@ -70,12 +70,12 @@ fn unless_dash(name: &str) -> Option<&str> {
 
 // Returns the name of a segment, if it has one.
 fn segment_name<'p>(part: Option<&'p SegmentStretches>) -> Option<&'p str> {
-    unless_dash(part?.name())
+    unless_dash(stretch_name(&part?.memory))
 }
 
 // Returns the name of the first section of a segment that holds an address, if it has one.
 fn section_name<'p>(address: u64, part: Option<&'p SegmentStretches>) -> Option<&'p str> {
-    unless_dash(part?.section_with(address)?)
+    unless_dash(section_name_with(part?, address)?)
 }
 
 // Returns the field for the image that a symbol comes from: its short name; if there is none, only a line has it, with the ordinal.

@@ -3,8 +3,8 @@
 #![forbid(unsafe_code)]
 
 use crate::generated::mach_cli::{
-    AddressObjectsOf, AllStretches, ImageView, InForm, ItemList, Object, Outcome, ShowFailure,
-    print_end_past, print_member,
+    AddressObjectsOf, ImageView, InForm, ItemList, Object, Outcome, ShowFailure, print_end_past,
+    print_member,
 };
 use crate::generated::machinfo::counts::{COUNTED, Form, print_counts};
 use crate::generated::machinfo::export_rows::{ExportForm, print_exports_of, walk_of};
@@ -14,7 +14,7 @@ use crate::generated::machinfo::members::write_front;
 use crate::generated::machinfo::word::{Choice, Word};
 use crate::shim::io;
 use crate::shim::io::Write;
-use goblin_mach::MachO;
+use goblin_mach::{AllStretches, MachO};
 
 /// The members of what a call selects, or of the summary.
 #[derive(Clone, Copy)]

@@ -3,8 +3,7 @@
 #![forbid(unsafe_code)]
 
 use crate::generated::mach_cli::{
-    InForm, ListProgress, Object, StringOrNull, comma_before, cpu_name, image_kind, print_member,
-    then,
+    InForm, ListProgress, Object, StringOrNull, comma_before, image_kind, print_member, then,
 };
 use crate::generated::machinfo::fact::FactObjects;
 use crate::generated::machinfo::list::ImageList;
@@ -16,6 +15,7 @@ use crate::shim::io;
 use crate::shim::io::Write;
 use goblin_mach::audit::{CommandFacts, FactList, Question, State, state_of};
 use goblin_mach::header::Header;
+use goblin_mach::names::cpu_name;
 use goblin_mach::signature::CodeDirectory;
 use goblin_mach::signature::image::code_directory;
 use goblin_mach::{Error, MachO, Result, describe};
@@ -27,7 +27,8 @@ use goblin_mach::{Error, MachO, Result, describe};
 ///
 /// <details><summary>Proved</summary>
 ///
-/// - if `Ok`: `WritesSome (O.contents out.old) (O.contents out.new)`
+/// - *written*: if `Ok`: `WritesSome (O.contents out.old) (O.contents out.new)`
+/// - *status*: for each `bytes : List ℕ`, if `IsImage bytes 0 image`, if `Ok(x)`: `IsFrontWhole limit bytes (facts_view image) (image_directory (bytes_view image) (commands_view image)) x`
 ///
 /// </details>
 pub fn write_front<O: Write>(image: &MachO<'_>, limit: usize, out: &mut O) -> io::Result<bool> {
@@ -66,8 +67,11 @@ fn write_lists<O: Write>(image: &MachO<'_>, limit: usize, out: &mut O) -> io::Re
     let tools = write_list("tools", list, limit, out)?;
     let list = FactList::Commands(CommandFacts::of(Question::Uuid, image));
     let uuids = write_list("uuids", list, limit, out)?;
-    let used = then(then(libraries, paths), platforms);
-    Ok(then(then(used, segments), then(tools, uuids)))
+    let two = then(libraries, paths);
+    let three = then(two, platforms);
+    let four = then(three, segments);
+    let five = then(four, tools);
+    Ok(then(five, uuids))
 }
 
 // Writes a list as a member with this name.

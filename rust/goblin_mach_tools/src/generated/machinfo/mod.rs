@@ -64,51 +64,53 @@ const DEFAULT_LIMIT: usize = 10_000_000;
 
 const PROGRAM: Program = Program {
     name: "machinfo",
-    usage: "usage: machinfo [--json] [--limit N] [--arch NAME | --cputype 0xN] [--names FILE] [-0] [--color WHEN] [WORD] FILE..
-       machinfo at ADDRESS | --at ADDRESS [--json] [--arch NAME | --cputype 0xN] [--names FILE] [-0] [--color WHEN] FILE..
+    about: "machinfo prints a summary of Mach-O files, or with a word one of their lists, a
+line for each item.
+",
+    usage: "usage: machinfo [--json] [--limit N] [--arch NAME | --cputype 0xN]
+                [--names FILE] [-0] [--color WHEN] [WORD] FILE..
+       machinfo at ADDRESS | --at ADDRESS [--json]
+                [--arch NAME | --cputype 0xN] [--names FILE] [-0]
+                [--color WHEN] FILE..
        machinfo -h | --help | --version
-WORD: commands, starts, slots, indirect, data, options, tools, notes, providers, libraries, rebases, weak,
-      segments, sections, uuid, rpaths, entrypoint, header, security, exports, imports
+WORD: commands, starts, slots, indirect, data, options, tools, notes, providers,
+      libraries, rebases, weak, segments, sections, uuid, rpaths, entrypoint,
+      header, security, exports, imports
 ",
     version: "machinfo 0.3.0\n",
     options: Options {
         has_address: true,
         ..Options::OF_IMAGES
     },
-    known: &[
-        "-0",
-        "--arch",
-        "--at",
-        "--color",
-        "--cputype",
-        "--help",
-        "--json",
-        "--limit",
-        "--names",
-        "--version",
-        "at",
-        "commands",
-        "data",
-        "entrypoint",
-        "exports",
-        "header",
-        "imports",
-        "indirect",
-        "libraries",
-        "notes",
-        "options",
-        "providers",
-        "rebases",
-        "rpaths",
-        "sections",
-        "segments",
-        "security",
-        "slots",
-        "starts",
-        "tools",
-        "uuid",
-        "weak",
-    ],
+    words: "  at ADDRESS                print what each image has at an address
+  commands                  print the load commands with their fields
+  starts                    print the addresses of the functions
+  slots                     print the stubs and symbol pointers
+  indirect                  print the indirect symbol table
+  data                      print the data in code
+  options                   print the linker options
+  tools                     print the build tools
+  notes                     print the notes
+  providers                 print which library provides each undefined symbol
+  libraries                 print the libraries and how each is used
+  rebases                   print the rebases
+  weak                      print the weak binds
+  segments                  print the segments
+  sections                  print the sections of all segments
+  uuid                      print the UUIDs
+  rpaths                    print the run paths
+  entrypoint                print where the image begins to run
+  header                    print the header
+  security                  print how the image is hardened
+  exports                   print what the image exports
+  imports                   print what dyld binds
+",
+    flags: "      --limit N             print at most N rows per file
+",
+    examples: "  machinfo prog                 a summary
+  machinfo imports prog         what dyld binds
+  machinfo at 0x100000460 prog  what a program has at an address
+",
 };
 
 pub fn main(rt: HostRuntime) -> ExitCode {
@@ -157,7 +159,7 @@ fn misspelled<'a>(rt: &HostRuntime, selection: Selection<'_, 'a>) -> Option<Misu
         return None;
     }
     let misuse = Misuse::UnknownWord(first);
-    let meant = misuse.meant(PROGRAM.known).unwrap_or(None);
+    let meant = PROGRAM.meant(misuse);
     if meant.is_some() { Some(misuse) } else { None }
 }
 

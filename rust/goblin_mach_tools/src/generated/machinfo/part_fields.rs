@@ -3,7 +3,7 @@
 #![forbid(unsafe_code)]
 
 use crate::generated::mach_cli::{
-    Field, FieldsForm, Value, cpu_name, if_not_empty, image_kind, name_in_field,
+    Field, FieldsForm, Value, if_not_empty, image_kind, name_in_field,
 };
 use crate::generated::machinfo::command_fields::{named, rights};
 use crate::generated::machinfo::fields::{column_if, flag_field};
@@ -21,6 +21,7 @@ use goblin_mach::header::{
     MH_SUBSECTIONS_VIA_SYMBOLS, MH_TWOLEVEL, MH_WEAK_DEFINES,
 };
 use goblin_mach::load_command::Section64;
+use goblin_mach::names::cpu_name;
 use goblin_mach::segment::{NumberedSection, Segment};
 
 /// Writes the fields of a row in a form.

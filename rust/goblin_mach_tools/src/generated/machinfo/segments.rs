@@ -8,31 +8,8 @@ use crate::generated::mach_cli::{
 use crate::shim::io;
 use crate::shim::io::Write;
 use goblin_mach::Result;
+use goblin_mach::names::rights_name;
 use goblin_mach::segment::{Section, SectionIterator, Segment};
-
-/// Returns the letters of a protection.
-///
-/// <details><summary>Proved</summary>
-///
-/// - `result ≡ rights_text protection`
-///
-/// </details>
-pub fn rights_name(protection: u32) -> &'static str {
-    match (
-        protection & 1 != 0,
-        protection & 2 != 0,
-        protection & 4 != 0,
-    ) {
-        (false, false, false) => "---",
-        (true, false, false) => "r--",
-        (false, true, false) => "-w-",
-        (true, true, false) => "rw-",
-        (false, false, true) => "--x",
-        (true, false, true) => "r-x",
-        (false, true, true) => "-wx",
-        (true, true, true) => "rwx",
-    }
-}
 
 // The sections that are left of a segment, those whose records begin within the bytes, and how many more it claims.
 pub struct SectionList<'a> {
@@ -102,7 +79,8 @@ impl Listing for SectionObjects<'_> {
 ///
 /// <details><summary>Proved</summary>
 ///
-/// - if `Ok`: `WritesSome (O.contents out.old) (O.contents out.new)`
+/// - *written*: if `Ok`: `WritesSome (O.contents out.old) (O.contents out.new)`
+/// - *status*: if `Ok(x)`: `IsAfterSegments limit (map segment_view segments) x`
 ///
 /// </details>
 pub fn write_segments<O: Write>(
@@ -110,16 +88,18 @@ pub fn write_segments<O: Write>(
     limit: usize,
     out: &mut O,
 ) -> io::Result<ListProgress> {
-    let first = &segments[..segments.len().min(limit)];
+    let first = &segments[..limit.min(segments.len())];
     let mut reported = ListProgress {
         left: limit,
         whole: true,
         more: limit < segments.len(),
     };
+    let mut is_first = true;
     write!(out, "\"segments\":[")?;
-    for (number, segment) in first.iter().enumerate() {
-        let next = write_segment(segment, number == 0, reported.left, out)?;
+    for segment in first {
+        let next = write_segment(segment, is_first, reported.left, out)?;
         reported = then(reported, next);
+        is_first = false;
     }
     write!(out, "],")?;
     Ok(reported)

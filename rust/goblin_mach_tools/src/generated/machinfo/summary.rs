@@ -2,13 +2,14 @@
 //! The summary of an image before its counts, but for its signature and its state.
 #![forbid(unsafe_code)]
 
-use crate::generated::mach_cli::{Escaped, cpu_name, image_kind, print_listing};
+use crate::generated::mach_cli::{Escaped, image_kind, print_listing};
 use crate::generated::machinfo::fact::FactLines;
 use crate::shim::io;
 use crate::shim::io::Write;
 use goblin_mach::MachO;
 use goblin_mach::audit::{CommandFacts, FactList, Question};
 use goblin_mach::header::{Header, flag_to_str};
+use goblin_mach::names::cpu_name;
 
 /// Prints the first lines of an image, each list up to the limit. Returns whether all were printed and can be read.
 ///

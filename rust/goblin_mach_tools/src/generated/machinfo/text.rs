@@ -2,64 +2,32 @@
 //! What the summary says of an image's platforms and tools.
 #![forbid(unsafe_code)]
 
-use crate::generated::mach_cli::VersionText;
 use core::fmt;
 use core::fmt::{Display, Formatter};
 use goblin_mach::audit::PlatformFact;
-use goblin_mach::load_command::{
-    PLATFORM_BRIDGEOS, PLATFORM_DRIVERKIT, PLATFORM_IOS, PLATFORM_IOSSIMULATOR,
-    PLATFORM_MACCATALYST, PLATFORM_MACOS, PLATFORM_TVOS, PLATFORM_TVOSSIMULATOR, PLATFORM_VISIONOS,
-    PLATFORM_VISIONOSSIMULATOR, PLATFORM_WATCHOS, PLATFORM_WATCHOSSIMULATOR, TOOL_CLANG, TOOL_LD,
-    TOOL_LLD, TOOL_SWIFT,
-};
+use goblin_mach::names;
+use goblin_mach::names::VersionText;
 
 /// Returns the name of a platform by its number.
 ///
 /// <details><summary>Proved</summary>
 ///
-/// - `result ≡ platform_name number`
+/// - `result ≡ platform_word number`
 ///
 /// </details>
-pub fn platform_name(number: u32) -> &'static str {
-    match number {
-        PLATFORM_MACOS => "macos",
-        PLATFORM_IOS => "ios",
-        PLATFORM_TVOS => "tvos",
-        PLATFORM_WATCHOS => "watchos",
-        PLATFORM_BRIDGEOS => "bridgeos",
-        PLATFORM_MACCATALYST => "maccatalyst",
-        PLATFORM_IOSSIMULATOR => "ios-simulator",
-        PLATFORM_TVOSSIMULATOR => "tvos-simulator",
-        PLATFORM_WATCHOSSIMULATOR => "watchos-simulator",
-        PLATFORM_DRIVERKIT => "driverkit",
-        PLATFORM_VISIONOS => "visionos",
-        PLATFORM_VISIONOSSIMULATOR => "visionos-simulator",
-        _ => "unknown",
-    }
+pub fn platform_word(number: u32) -> &'static str {
+    names::platform_name(number).unwrap_or("unknown")
 }
 
 /// Returns the name of a tool by its number; none if it is not known.
 ///
 /// <details><summary>Proved</summary>
 ///
-/// - `result ≡ tool_name number`
+/// - `result ≡ tool_word number`
 ///
 /// </details>
-pub fn tool_name(number: u32) -> &'static str {
-    match number {
-        TOOL_CLANG => "clang",
-        TOOL_SWIFT => "swift",
-        TOOL_LD => "ld",
-        TOOL_LLD => "lld",
-        1024 => "metal",
-        1025 => "airlld",
-        1026 => "airnt",
-        1027 => "airnt-plugin",
-        1028 => "airpack",
-        1031 => "gpuarchiver",
-        1032 => "metal-framework",
-        _ => "",
-    }
+pub fn tool_word(number: u32) -> &'static str {
+    names::tool_name(number).unwrap_or("")
 }
 
 /// The name of a tool, or its number if that is not known.
@@ -68,11 +36,12 @@ pub struct ToolText(pub u32);
 
 impl Display for ToolText {
     fn fmt(&self, f: &mut Formatter<'_>) -> fmt::Result {
-        let (number, name) = (self.0, tool_name(self.0));
-        if name.is_empty() {
-            write!(f, "{number}")
-        } else {
-            f.write_str(name)
+        match names::tool_name(self.0) {
+            Some(name) => f.write_str(name),
+            None => {
+                let number = self.0;
+                write!(f, "{number}")
+            }
         }
     }
 }
@@ -97,7 +66,7 @@ pub struct PlatformText(pub PlatformFact);
 
 impl Display for PlatformText {
     fn fmt(&self, f: &mut Formatter<'_>) -> fmt::Result {
-        let name = platform_name(self.0.platform);
+        let name = platform_word(self.0.platform);
         let (least, sdk) = (VersionText(self.0.least), SdkText(self.0.sdk));
         write!(f, "platform: {name} {least}{sdk}")
     }
@@ -123,7 +92,7 @@ pub struct PlatformObject(pub PlatformFact);
 
 impl Display for PlatformObject {
     fn fmt(&self, f: &mut Formatter<'_>) -> fmt::Result {
-        let name = platform_name(self.0.platform);
+        let name = platform_word(self.0.platform);
         let sdk = SdkObject(self.0.sdk);
         let least = VersionText(self.0.least);
         write!(

@@ -3,8 +3,7 @@
 #![forbid(unsafe_code)]
 
 use crate::generated::mach_cli::{
-    AddressLinesOf, AllStretches, ImageView, InForm, Line, Outcome, Pairs, ShowFailure, print_cut,
-    print_listing,
+    AddressLinesOf, ImageView, InForm, Line, Outcome, Pairs, ShowFailure, print_cut, print_listing,
 };
 use crate::generated::machinfo::counts::{COUNTED, Form, print_counts};
 use crate::generated::machinfo::export_rows::{ExportForm, print_exports_of, walk_of};
@@ -17,8 +16,8 @@ use crate::generated::machinfo::summary::{print_front, print_used};
 use crate::generated::machinfo::word::{Choice, Part, Word};
 use crate::shim::io;
 use crate::shim::io::Write;
-use goblin_mach::MachO;
 use goblin_mach::audit::state_of;
+use goblin_mach::{AllStretches, MachO};
 
 /// The lines of what a call selects, or of the summary.
 #[derive(Clone, Copy)]

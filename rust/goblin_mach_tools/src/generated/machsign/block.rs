@@ -4,7 +4,7 @@
 
 use crate::generated::mach_cli::{print_bytes, print_code_flags, print_rows, print_segment_flags};
 use crate::generated::machsign::form::Form;
-use crate::generated::machsign::full_hash::print_hash_of;
+use crate::generated::machsign::full_hash::print_full_hash;
 use crate::generated::machsign::special::{MOST_SLOTS, SpecialSlots};
 use crate::generated::machsign::text::{HeadFront, RuntimeText, SegmentFront, ShapeText};
 use crate::shim::io;
@@ -143,7 +143,7 @@ fn print_full_cdhash<O: Write>(directory: &CodeDirectory<'_>, out: &mut O) -> io
         return Ok(());
     }
     write!(out, "  full cdhash: ")?;
-    print_hash_of(directory.hash, directory.bytes, out)?;
+    print_full_hash(directory, out)?;
     writeln!(out)
 }
 

@@ -7,8 +7,7 @@ use crate::generated::machsign::agreement::AgreementObject;
 use crate::generated::machsign::blobs::OtherBlobs;
 use crate::generated::machsign::faults::write_faults;
 use crate::generated::machsign::form::Form;
-use crate::generated::machsign::full_hash::print_hash_of;
-use crate::generated::machsign::kind::Kind;
+use crate::generated::machsign::full_hash::print_full_hash;
 use crate::generated::machsign::requirement_lines::write_requirements;
 use crate::generated::machsign::signed::{has_sound_parts, signed_image};
 use crate::generated::machsign::special::{MOST_SLOTS, SpecialSlots};
@@ -19,7 +18,7 @@ use core::fmt;
 use core::fmt::{Display, Formatter};
 use goblin_mach::segment::Segment;
 use goblin_mach::signature::entitlements::{Agreement, agreement_in};
-use goblin_mach::signature::{CodeDirectory, ExecutableSegment, RuntimeFields, SignedBytes};
+use goblin_mach::signature::{CodeDirectory, ExecutableSegment, Kind, RuntimeFields, SignedBytes};
 use goblin_mach::{Error, MachO, Result, describe};
 
 /// Writes the members of an image: of the blobs and the faults of its signature together the first `left`. Returns whether it has
@@ -103,7 +102,7 @@ fn write_cdhash<O: Write>(
     write!(out, ",\"cdhash\":\"")?;
     print_bytes(&directory.cdhash(), out)?;
     write!(out, "\",\"cdhash_full\":\"")?;
-    print_hash_of(directory.hash, directory.bytes, out)?;
+    print_full_hash(directory, out)?;
     let compared = AgreementObject(agreement);
     let executable = ExecutableObject(directory.executable);
     write!(

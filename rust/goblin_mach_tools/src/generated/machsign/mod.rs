@@ -19,7 +19,7 @@ mod faults;
 mod form;
 mod full_hash;
 mod json;
-mod kind;
+mod kind_text;
 mod members;
 mod print;
 mod requirement_lines;
@@ -39,22 +39,23 @@ use std::process::ExitCode;
 
 const PROGRAM: Program = Program {
     name: NAME,
-    usage: "usage: machsign [--json] [--limit N] [--arch NAME | --cputype 0xN] [--names FILE] [-0] [--color WHEN] FILE..\n\
-        \x20      machsign --entitlements [--arch NAME | --cputype 0xN] FILE\n       machsign -h | --help | --version\n",
+    about: "machsign prints the code signatures of Mach-O files, and what doesn't match
+them. It doesn't check who signed.
+",
+    usage: "usage: machsign [--json] [--limit N] [--arch NAME | --cputype 0xN]
+                [--names FILE] [-0] [--color WHEN] FILE..
+       machsign --entitlements [--arch NAME | --cputype 0xN] FILE
+       machsign -h | --help | --version
+",
     version: "machsign 0.3.0\n",
     options: Options::OF_IMAGES,
-    known: &[
-        "-0",
-        "--arch",
-        "--color",
-        "--cputype",
-        "--entitlements",
-        "--help",
-        "--json",
-        "--limit",
-        "--names",
-        "--version",
-    ],
+    words: "",
+    flags: "      --entitlements        write the entitlements of the first image with any
+      --limit N             print at most N lines of blobs and faults per file
+",
+    examples: "  machsign prog                 the signature, and its faults
+  machsign --entitlements prog  the entitlements in XML
+",
 };
 
 pub fn main(rt: HostRuntime) -> ExitCode {

@@ -8,14 +8,14 @@ use crate::generated::machsign::blobs::OtherBlobs;
 use crate::generated::machsign::block::print_directory;
 use crate::generated::machsign::faults::write_faults;
 use crate::generated::machsign::form::Form;
-use crate::generated::machsign::kind::{Cms, Kind, cms_of};
+use crate::generated::machsign::kind_text::{KindText, why_unknown};
 use crate::generated::machsign::requirement_lines::print_requirements;
 use crate::generated::machsign::signed::{has_sound_parts, signed_image};
 use crate::shim::io;
 use crate::shim::io::Write;
 use goblin_mach::segment::Segment;
 use goblin_mach::signature::entitlements::agreement_in;
-use goblin_mach::signature::{CodeDirectory, SignedBytes};
+use goblin_mach::signature::{Cms, CodeDirectory, Kind, SignedBytes, cms_of};
 use goblin_mach::{Error, MachO, describe};
 
 /// Prints the lines of an image's signature: of its blobs and its faults together the first `left`, and if there are more, a line
@@ -87,7 +87,8 @@ fn print_front<O: Write>(signed: &SignedBytes<'_>, out: &mut O) -> io::Result<()
 
 // Prints the line of the kind of a signature.
 fn print_kind<O: Write>(kind: Kind, out: &mut O) -> io::Result<()> {
-    writeln!(out, "signature: {kind}")
+    let words = KindText(kind);
+    writeln!(out, "signature: {words}")
 }
 
 // Prints the lines of all directories.
@@ -124,6 +125,6 @@ fn print_back<O: Write>(
 
 // Prints why it isn't known who signed.
 fn print_unchecked<O: Write>(cms: Cms, out: &mut O) -> io::Result<()> {
-    let why = cms.why_unknown();
+    let why = why_unknown(cms);
     writeln!(out, "not checked: who signed ({why})")
 }

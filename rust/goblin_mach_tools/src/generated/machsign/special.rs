@@ -10,33 +10,19 @@ use core::fmt;
 use core::fmt::{Display, Formatter};
 use goblin_mach::Result;
 use goblin_mach::signature::{
-    CodeDirectory, SignedBytes, SlotName, SpecialFault, component, is_unsealing,
+    CodeDirectory, SignedBytes, SlotName, SlotState, SpecialSlot, shown_slot,
 };
 
 /// How many special slots are known.
 pub const MOST_SLOTS: usize = 11;
 
-/// The state of a special slot.
+// The words of the state of a special slot.
 #[derive(Clone, Copy)]
-pub enum SlotState {
-    /// The image has what was signed.
-    AsSigned,
-    /// The image has nothing for it: the slot seals another file.
-    OtherFile,
-    /// What the slot seals can't be read.
-    Unreadable,
-    /// The slot isn't known.
-    Unknown,
-    /// The slot seals nothing.
-    Unsealed,
-    /// The other faults of a slot.
-    Changed,
-    Absent,
-}
+struct StateText(SlotState);
 
-impl Display for SlotState {
+impl Display for StateText {
     fn fmt(&self, f: &mut Formatter<'_>) -> fmt::Result {
-        f.write_str(match self {
+        f.write_str(match self.0 {
             SlotState::AsSigned => "as signed",
             SlotState::OtherFile => "of another file",
             SlotState::Unreadable => "unreadable",
@@ -62,64 +48,6 @@ impl Display for SealedText {
             SlotState::Unknown | SlotState::Unsealed | SlotState::Absent => "",
         })
     }
-}
-
-// Returns the state of a slot without a fault.
-fn unfaulted_state(there: Result<Option<&[u8]>>) -> SlotState {
-    match there {
-        Ok(Some(_)) => SlotState::AsSigned,
-        Ok(None) => SlotState::OtherFile,
-        Err(_) => SlotState::Unreadable,
-    }
-}
-
-// Returns the state of a slot, with or without a fault.
-fn slot_state(fault: Option<SpecialFault>, there: Result<Option<&[u8]>>) -> SlotState {
-    match fault {
-        Some(SpecialFault::Unknown { .. }) => SlotState::Unknown,
-        Some(SpecialFault::Unsealed { .. }) => SlotState::Unsealed,
-        Some(SpecialFault::Changed { .. }) => SlotState::Changed,
-        Some(SpecialFault::Absent { .. }) => SlotState::Absent,
-        None => unfaulted_state(there),
-    }
-}
-
-/// A special slot, with its hash if it has one.
-#[derive(Clone, Copy)]
-pub struct SpecialSlot<'a> {
-    number: u32,
-    hash: &'a [u8],
-    state: SlotState,
-}
-
-// Returns a slot if it seals something, or has a fault.
-fn if_shown<'a>(
-    number: u32,
-    hash: &'a [u8],
-    fault: Option<SpecialFault>,
-    there: Result<Option<&[u8]>>,
-) -> Option<SpecialSlot<'a>> {
-    if fault.is_none() && is_unsealing(hash) {
-        return None;
-    }
-    let state = slot_state(fault, there);
-    Some(SpecialSlot {
-        number,
-        hash,
-        state,
-    })
-}
-
-// Returns the slot with a number, if it seals something, or has a fault.
-fn shown_slot<'a>(
-    signed: &SignedBytes<'a>,
-    directory: &CodeDirectory<'a>,
-    number: u32,
-) -> Option<SpecialSlot<'a>> {
-    let hash = directory.special_slot(number)?;
-    let fault = directory.special_fault(&signed.signature, signed.plist, number);
-    let there = component(&signed.signature, signed.plist, number);
-    if_shown(number, hash, fault, there)
 }
 
 // Whether a slot has a line even if it seals nothing: the Info.plist, the requirements, the resources, or entitlements.
@@ -225,9 +153,10 @@ impl<'a> Listing for SpecialSlots<'a> {
 
 // Prints the line of a slot.
 fn print_line<O: Write>(slot: &SpecialSlot<'_>, out: &mut O) -> io::Result<()> {
-    let (name, state, sealed) = (SlotName(slot.number), slot.state, SealedText(slot.state));
+    let (name, state) = (SlotName(slot.number), StateText(slot.state));
+    let sealed = SealedText(slot.state);
     write!(out, "  {name}: {sealed}{state}")?;
-    print_hash(state, slot.hash, out)
+    print_hash(slot.state, slot.hash, out)
 }
 
 // Prints the hash of a slot that seals another file.
@@ -243,7 +172,7 @@ fn print_hash<O: Write>(state: SlotState, hash: &[u8], out: &mut O) -> io::Resul
 
 // Writes the object of a slot.
 fn write_object<O: Write>(slot: &SpecialSlot<'_>, out: &mut O) -> io::Result<()> {
-    let (number, name, state) = (slot.number, SlotName(slot.number), slot.state);
+    let (number, name, state) = (slot.number, SlotName(slot.number), StateText(slot.state));
     write!(out, "{{\"hash\":\"")?;
     print_bytes(slot.hash, out)?;
     write!(

@@ -47,36 +47,42 @@ use symbol_view::SymbolLinesOf;
 
 const PROGRAM: Program = Program {
     name: "machsyms",
-    usage: "usage: machsyms [-AUagjmnoprux] [--raw] [--json] [--limit N] [--arch NAME | --cputype 0xN] \
-        [--names FILE [-0]] [--color WHEN] FILE..\n       machsyms --at ADDRESS [-A] [--raw] [--json] [--arch NAME | --cputype 0xN] \
-        [--names FILE [-0]] [--color WHEN] FILE..\n       machsyms -h | --help | --version\n",
+    about: "machsyms prints the symbols of Mach-O files, a line each, as 'nm -a -p' does.
+With letters its output is that of nm with the same letters.
+",
+    usage: "usage: machsyms [-AUagjmnoprux] [--raw] [--json] [--limit N]
+                [--arch NAME | --cputype 0xN] [--names FILE [-0]]
+                [--color WHEN] FILE..
+       machsyms --at ADDRESS [-A] [--raw] [--json]
+                [--arch NAME | --cputype 0xN] [--names FILE [-0]]
+                [--color WHEN] FILE..
+       machsyms -h | --help | --version
+",
     version: "machsyms 0.3.0\n",
     options: Options {
         has_address: true,
         ..Options::OF_IMAGES
     },
-    known: &[
-        "--arch",
-        "--at",
-        "--color",
-        "--cputype",
-        "--debug-syms",
-        "--defined-only",
-        "--extern-only",
-        "--format=darwin",
-        "--format=just-symbols",
-        "--help",
-        "--json",
-        "--limit",
-        "--names",
-        "--no-sort",
-        "--numeric-sort",
-        "--print-file-name",
-        "--raw",
-        "--reverse-sort",
-        "--undefined-only",
-        "--version",
-    ],
+    words: "",
+    flags: "  -a, --debug-syms          show debugging symbols too
+  -g, --extern-only         show only external symbols
+  -u, --undefined-only      show only undefined symbols, by name alone
+  -U, --defined-only        show only defined symbols
+  -n, --numeric-sort        sort by address
+  -r, --reverse-sort        reverse the order
+  -p, --no-sort             keep the order of the symbol table
+  -j, --format=just-symbols print only the names
+  -m, --format=darwin       describe each symbol in words
+  -x                        print the fields in hexadecimal
+  -A, --print-file-name     print the file name before each line
+  -o                        print the file name before each line
+      --raw                 print names as they are in the file
+      --limit N             print at most N symbols per file
+",
+    examples: "  machsyms -gU libz.dylib         what a library defines for others
+  machsyms --at 0x100000460 prog  what a program has at an address
+  machsyms --json prog            all symbols as JSON
+",
 };
 
 pub fn main(rt: HostRuntime) -> ExitCode {

@@ -1,7 +1,7 @@
 use Rattle.std.proofs.Common.{ℕ, List, Option, subst}
 use Rattle.goblin_mach.proofs.ImageFacts.{strict-lossy}
 use Rattle.goblin_mach.specs.OpenImage.{commands_view}
-use Rattle.mach_cli.specs.AllStretches.{SegmentStretches, parts_view}
+use Rattle.goblin_mach.specs.AllStretches.{SegmentStretches, parts_view}
 use Rattle.machfixups.specs.ImageLines.{ArePointerLines}
 use Rattle.machfixups.specs.KeptFixups.{kinds_in_lines}
 use Rattle.machfixups.specs.Rows.{PointerRows, line_rows, readable_table, rows_shown}

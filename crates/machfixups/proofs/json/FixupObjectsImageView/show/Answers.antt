@@ -2,7 +2,7 @@ use Rattle.std.proofs.Common.{ℕ, List, Option, subst, true}
 use Rattle.goblin_mach.proofs.ImageFacts.{strict-lossy}
 use Rattle.goblin_mach.specs.OpenImage.{commands_view}
 use Rattle.mach_cli.specs.JsonArrays.{AreListMembers}
-use Rattle.mach_cli.specs.AllStretches.{SegmentStretches, parts_view}
+use Rattle.goblin_mach.specs.AllStretches.{SegmentStretches, parts_view}
 use Rattle.machfixups.specs.JsonImages.{pointer_members}
 use Rattle.machfixups.specs.KeptFixups.{kinds_in_objects}
 use Rattle.machfixups.specs.Rows.{PointerRows, object_rows, readable_table, rows_shown}

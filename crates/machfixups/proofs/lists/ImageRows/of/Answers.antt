@@ -10,7 +10,7 @@ use Rattle.mach_dyld.specs.WeakBindsLeft.{weak_binds_left}
 use Rattle.goblin_mach.specs.Fixups.{AreImageFixups, chained_view}
 use Rattle.goblin_mach.specs.FixupsLeft.{image_fixups_left}
 use Rattle.goblin_mach.specs.OpenImage.{ctx_view, segments_view}
-use Rattle.mach_cli.specs.AllStretches.{parts_view}
+use Rattle.goblin_mach.specs.AllStretches.{parts_view}
 use Rattle.machfixups.specs.KeptFixups.{kept_fixups}
 use Rattle.machfixups.specs.KeptLeft.{kept_left}
 use Rattle.machfixups.specs.Lists.{PointerLists}

@@ -40,7 +40,9 @@ impl core::fmt::Debug for Group {
 #[derive(Clone, Copy, Eq, Hash, PartialEq)]
 #[cfg_attr(not(feature = "internals"), non_exhaustive)]
 pub struct Span<'a> {
+    /// The notation.
     pub notation: Notation,
+    /// The bytes.
     pub bytes: &'a [u8],
 }
 
@@ -88,8 +90,11 @@ impl core::fmt::Debug for NumberKind {
 #[derive(Clone, Copy, Eq, Hash, PartialEq)]
 #[cfg_attr(not(feature = "internals"), non_exhaustive)]
 pub enum Plain<'a> {
+    /// A boolean.
     Boolean(bool),
+    /// What a number stands for.
     Number(NumberKind, u64),
+    /// A text, as it is written.
     Text(Span<'a>),
     /// A real, which no value in DER is like.
     Unlike,
@@ -106,7 +111,9 @@ impl<'a> core::fmt::Debug for Plain<'a> {
 #[derive(Clone, Copy, Eq, Hash, PartialEq)]
 #[cfg_attr(not(feature = "internals"), non_exhaustive)]
 pub enum Value<'a> {
+    /// A value that contains no other.
     Plain(Plain<'a>),
+    /// A group, and its values up to its end.
     Group(Group, Span<'a>),
 }
 
@@ -123,6 +130,7 @@ impl<'a> core::fmt::Debug for Value<'a> {
 pub struct Entry<'a> {
     /// Its key; empty in an array.
     pub key: Span<'a>,
+    /// The value.
     pub value: Value<'a>,
     /// What follows it, unless that is known only when the value was read to its end.
     pub rest: Option<Span<'a>>,

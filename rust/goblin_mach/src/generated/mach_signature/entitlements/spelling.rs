@@ -164,9 +164,11 @@ pub fn is_plain_text(text: &[u8]) -> bool {
 #[derive(Clone, Copy, Eq, Hash, PartialEq)]
 #[cfg_attr(not(feature = "internals"), non_exhaustive)]
 pub struct Spelled<'a> {
+    /// The character.
     pub character: char,
     /// How many of its bytes were taken.
     pub taken: usize,
+    /// The rest.
     pub text: Span<'a>,
 }
 
@@ -177,8 +179,14 @@ impl<'a> core::fmt::Debug for Spelled<'a> {
     }
 }
 
-// Returns all of a text.
-fn whole_text<'a>(text: Span<'a>) -> Spelled<'a> {
+/// Returns all of a text.
+///
+/// <details><summary>Proved</summary>
+///
+/// - `spelled_left result ≡ spelled_text (seen_span text.entry)`
+///
+/// </details>
+pub fn whole_text<'a>(text: Span<'a>) -> Spelled<'a> {
     Spelled {
         character: '\0',
         taken: 1,
@@ -245,8 +253,14 @@ fn first_of_text<'a>(text: Span<'a>) -> Option<(u8, Spelled<'a>)> {
     })
 }
 
-// Returns the first byte of what is left of a text, and what is left then.
-fn next_byte<'a>(left: Spelled<'a>) -> Option<(u8, Spelled<'a>)> {
+/// Returns the first byte of what is left of a text, and what is left then.
+///
+/// <details><summary>Proved</summary>
+///
+/// - if `None`: `spelled_left left.entry ≡ []`; if `Some(x)`: `spelled_left left.entry ≡ x.0 ∷ spelled_left x.1`
+///
+/// </details>
+pub fn next_byte<'a>(left: Spelled<'a>) -> Option<(u8, Spelled<'a>)> {
     match byte_of(left.character, left.taken) {
         Some(byte) => {
             let taken = left.taken + 1;

@@ -2,12 +2,11 @@
 //! What an image has at an address, as a line.
 #![forbid(unsafe_code)]
 
-use crate::generated::mach_cli::address::FoundAt;
 use crate::generated::mach_cli::name_text::{FileText, NameText};
 use core::fmt;
 use core::fmt::{Display, Formatter};
 use goblin_mach::load_command::Section64;
-use goblin_mach::{Function, read_text};
+use goblin_mach::{FoundAt, Function, read_text};
 
 /// The line of an address, without its end: the address, the section that holds it, the symbol with the distance from it, and the
 /// function.

@@ -2,12 +2,11 @@
 //! What an image has at an address, as a member of its object.
 #![forbid(unsafe_code)]
 
-use crate::generated::mach_cli::address::FoundAt;
 use crate::generated::mach_cli::json::text::{StringOrNull, name_in_field};
 use core::fmt;
 use core::fmt::{Display, Formatter};
-use goblin_mach::Function;
 use goblin_mach::segment::NumberedSection;
+use goblin_mach::{FoundAt, Function};
 
 /// The object of an address, with its name as a member.
 #[derive(Clone, Copy)]
@@ -21,10 +20,10 @@ pub struct AtMember<'t, 'a> {
 impl Display for AtMember<'_, '_> {
     fn fmt(&self, f: &mut Formatter<'_>) -> fmt::Result {
         let AtMember { address, found } = *self;
-        let distance = NumberOrNull(found.distance());
+        let distance = NumberOrNull(distance(found));
         let function = FunctionMembers(found.function);
         let holder = HolderMembers(found.section);
-        let symbol = StringOrNull(found.symbol_name());
+        let symbol = StringOrNull(symbol_name(found));
         write!(
             f,
             "\"at\":{{\"address\":{address},\"distance\":{distance},{function},{holder},\"symbol\":{symbol}}}"
@@ -75,20 +74,18 @@ impl Display for NumberOrNull {
     }
 }
 
-impl<'a> FoundAt<'a> {
-    // Returns the name of the symbol, if there is one.
-    fn symbol_name(&self) -> Option<&str> {
-        match &self.symbol {
-            Some(symbol) => Some(symbol.name),
-            None => None,
-        }
+// Returns the name of the symbol that was found, if there is one.
+fn symbol_name<'t>(found: &'t FoundAt<'_>) -> Option<&'t str> {
+    match &found.symbol {
+        Some(symbol) => Some(symbol.name),
+        None => None,
     }
+}
 
-    // Returns how far the address is above the symbol, if there is one.
-    fn distance(&self) -> Option<u64> {
-        match &self.symbol {
-            Some(symbol) => Some(symbol.distance),
-            None => None,
-        }
+// Returns how far the address is above the symbol that was found, if there is one.
+fn distance(found: &FoundAt<'_>) -> Option<u64> {
+    match &found.symbol {
+        Some(symbol) => Some(symbol.distance),
+        None => None,
     }
 }

@@ -2,14 +2,13 @@
 //! What the program prints of an image for an address.
 #![forbid(unsafe_code)]
 
-use crate::generated::mach_cli::address::FoundAt;
 use crate::generated::mach_cli::address::line::AtText;
 use crate::generated::mach_cli::address::object::AtMember;
 use crate::generated::mach_cli::failure::ShowFailure;
 use crate::generated::mach_cli::image_view::{ImageView, Outcome};
 use crate::generated::mach_cli::name_text::file_if;
 use crate::shim::io::Write;
-use goblin_mach::MachO;
+use goblin_mach::{FoundAt, MachO};
 
 // Returns the outcome of showing what an image has at an address: it is whole if a section holds the address.
 fn outcome_of(found: &FoundAt<'_>, left: usize) -> Outcome {

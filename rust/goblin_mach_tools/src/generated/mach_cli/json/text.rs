@@ -2,7 +2,9 @@
 //! Texts as JSON strings.
 #![forbid(unsafe_code)]
 
-use crate::generated::mach_cli::escaped::{Style, write_escaped};
+use crate::generated::mach_cli::escaped::{Style, Written, print_written};
+use crate::shim::io;
+use crate::shim::io::Write;
 use core::fmt;
 use core::fmt::{Display, Formatter};
 use goblin_mach::read_text;
@@ -13,18 +15,9 @@ pub struct JsonString<'a>(pub &'a str);
 
 impl Display for JsonString<'_> {
     fn fmt(&self, f: &mut Formatter<'_>) -> fmt::Result {
-        let inner = Inner(self.0);
+        let (style, text) = (Style::Json, self.0);
+        let inner = Written { style, text };
         write!(f, "\"{inner}\"")
-    }
-}
-
-// The inside of a string, between its quotation marks.
-#[derive(Clone, Copy)]
-struct Inner<'a>(&'a str);
-
-impl Display for Inner<'_> {
-    fn fmt(&self, f: &mut Formatter<'_>) -> fmt::Result {
-        write_escaped(f, Style::Json, self.0)
     }
 }
 
@@ -42,6 +35,19 @@ impl Display for StringOrNull<'_> {
             None => f.write_str("null"),
         }
     }
+}
+
+/// Prints a text as a string, as `JsonString` writes it.
+///
+/// <details><summary>Proved</summary>
+///
+/// - if `Ok`: `Appends (O.contents out.old) (O.contents out.new) (json_string text)`
+///
+/// </details>
+pub fn print_string<O: Write>(text: &str, out: &mut O) -> io::Result<()> {
+    out.write_all(b"\"")?;
+    print_written(Style::Json, text, out)?;
+    out.write_all(b"\"")
 }
 
 /// Returns a text, if there is one that is not empty.

@@ -3,12 +3,12 @@
 #![forbid(unsafe_code)]
 
 use crate::generated::mach_cli::{Refusal, comma_before};
-use crate::generated::machaudit::report::Finding;
 use crate::generated::machaudit::signature_text::message_of;
 use crate::shim::io;
 use crate::shim::io::Write;
 use core::fmt;
 use core::fmt::{Display, Formatter};
+use goblin_mach::audit::ItemFault;
 use goblin_mach::describe;
 use goblin_mach::layout::{Evidence, LayoutFault};
 use goblin_mach::signature::{SignatureFault, SlotName};
@@ -42,7 +42,7 @@ impl FaultObject for NoImage {
     }
 }
 
-impl FaultObject for Finding {
+impl FaultObject for ItemFault {
     fn write_object<O: Write>(&self, part: &str, out: &mut O) -> io::Result<()> {
         let place = self.place;
         let words = describe(&self.error);

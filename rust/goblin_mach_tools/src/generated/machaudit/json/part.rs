@@ -5,11 +5,9 @@
 use crate::generated::mach_cli::Refusal;
 use crate::generated::machaudit::json::fault::{FaultObject, write_next};
 use crate::generated::machaudit::layout_text::Counts;
-use crate::generated::machaudit::report::{
-    Finding, PartReport, Parts, Records, SignaturePart, SignatureReport,
-};
 use crate::shim::io;
 use crate::shim::io::Write;
+use goblin_mach::audit::{ItemFault, PartReport, Parts, Records, SignaturePart, SignatureReport};
 use goblin_mach::describe;
 use goblin_mach::layout::LayoutFault;
 use goblin_mach::signature::SignatureFault;
@@ -102,7 +100,7 @@ fn write_list<O: Write>(name: &str, part: &PartReport, past: usize, out: &mut O)
         past,
         cut: part.cut,
     };
-    write_part::<Finding, O>(name, reported, unreported, out)
+    write_part::<ItemFault, O>(name, reported, unreported, out)
 }
 
 // Writes a part of an image that consists of records, after a comma.

@@ -1,5 +1,0 @@
-use Rattle.std.proofs.Common.{length}
-use Rattle.mach_cli.proofs.stretches.+changes_of.Given as goal
-
-abbrev pub decreases-changes_of : goal.decreases-changes_of
-decreases-changes_of g l = length l.stretches.now

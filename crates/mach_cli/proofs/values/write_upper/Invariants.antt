@@ -1,7 +1,0 @@
-use Rattle.std.proofs.Common.{take}
-use Rattle.std.specs.Fmt.{HasWritten, IsPlainFormatter}
-use Rattle.mach_cli.specs.Values.{upper_bytes}
-use Rattle.mach_cli.proofs.values.write_upper.Given as goal
-
-abbrev pub invariant-bytes : goal.invariant-bytes
-invariant-bytes g l = IsPlainFormatter l.initial.f → HasWritten g.W.Write.write_str_gives l.initial.f (upper_bytes (take l.byte-index l.bytes)) l.f

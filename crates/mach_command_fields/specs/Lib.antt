@@ -1,0 +1,2 @@
+pub mod CommandTables
+pub mod FieldRows

@@ -1,0 +1,11 @@
+//! The fields of load commands for C, which gets no texts: their names, and their values as numbers, or as places and lengths.
+#![tactic(auto)]
+
+mod fields;
+mod kind;
+mod tables;
+mod zero;
+
+pub use crate::fields::{CommandField, CommandFields};
+pub use crate::kind::FieldKind;
+pub use crate::zero::before_zero;
