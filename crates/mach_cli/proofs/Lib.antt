@@ -18,6 +18,7 @@ mod TitleKept
 mod CallsRead
 mod Formed
 pub mod FieldLines
+pub mod RecordWritten
 mod HexWords
 mod ShortNames
 mod Padding

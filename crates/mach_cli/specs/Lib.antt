@@ -25,6 +25,7 @@ pub mod Fields
 pub mod Signing
 pub mod Origins
 pub mod ImageKinds
+pub mod RecordFields
 pub mod Refusals
 pub mod Sinks
 pub mod ShownCalls

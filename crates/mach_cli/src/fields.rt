@@ -11,6 +11,7 @@ ghost use Rattle.mach_cli.specs.Fields.{value_in_line, value_in_object, value_in
 use crate::digits::{print_decimal, print_hexadecimal, print_wide_hexadecimal};
 use crate::escaped::print_escaped;
 use crate::json::text::print_string;
+use crate::record_fields::{RecordFields, print_record_members, print_record_pairs};
 use crate::spaces::print_spaces;
 use goblin_mach::chained_fixups::PointerAuth;
 use goblin_mach::names::{SourceVersionText, UuidText, VersionText};
@@ -277,9 +278,10 @@ fn print_in_object<O: Write>(value: Value<'_>, out: &mut O) -> io::Result<()>
 
 /// How the fields of an item are written.
 pub trait FieldsForm {
-    ghost use Rattle.std.specs.Prelude.{◌≡◌, ◌++◌, List, ℕ, map, OnOk};
+    ghost use Rattle.std.specs.Prelude.{◌≡◌, ◌++◌, ◌∷◌, List, ℕ, map, OnOk};
     ghost use Rattle.std.specs.Io.KnownBytes.{Appends};
-    ghost use Rattle.mach_cli.specs.Fields.{FieldView, field_view};
+    ghost use Rattle.mach_cli.specs.Fields.{FieldView, field_view, named_field};
+    ghost use Rattle.mach_cli.specs.RecordFields.{shown_left};
 
     // The text of an item with these fields.
     ghost fields_text: { List FieldView → List ℕ };
@@ -298,6 +300,16 @@ pub trait FieldsForm {
         out: &mut O,
     ) -> io::Result<()>
         ensures { OnOk result (Appends (O.contents out.old) (O.contents out.new) (fields_text (map field_view fields.now ++ map field_view others.now))) };
+
+    /// Writes an item with a first field, these, and those of a load command's record after them.
+    fn write_record<O: Write>(
+        first: &Field<'_>,
+        fields: &[Field<'_>],
+        shown: RecordFields<'_>,
+        out: &mut O,
+    ) -> io::Result<()>
+        ensures { OnOk result (Appends (O.contents out.old) (O.contents out.new)
+            (fields_text (field_view first.now ∷ (map field_view fields.now ++ map named_field (shown_left shown.entry))))) };
 }
 
 /// A line: the fields in the order of their columns, a space between two.
@@ -313,6 +325,15 @@ impl FieldsForm for Line {
         out: &mut O,
     ) -> io::Result<()> {
         print_columns(fields, others, &COLUMNS, out)
+    }
+
+    fn write_record<O: Write>(
+        first: &Field<'_>,
+        fields: &[Field<'_>],
+        _shown: RecordFields<'_>,
+        out: &mut O,
+    ) -> io::Result<()> {
+        print_columns(&[*first], fields, &COLUMNS, out)
     }
 }
 
@@ -331,6 +352,16 @@ impl FieldsForm for Pairs {
         print_columns(fields, others, &COLUMNS, out)?;
         print_pairs(fields, out)?;
         print_pairs(others, out)
+    }
+
+    fn write_record<O: Write>(
+        first: &Field<'_>,
+        fields: &[Field<'_>],
+        shown: RecordFields<'_>,
+        out: &mut O,
+    ) -> io::Result<()> {
+        Pairs::write_both(&[*first], fields, out)?;
+        print_record_pairs(shown, out)
     }
 }
 
@@ -354,6 +385,17 @@ impl FieldsForm for Object {
             ([], [first, next @ ..]) => print_opened(first, next, out)?,
             ([], []) => write!(out, "{{")?,
         }
+        write!(out, "}}")
+    }
+
+    fn write_record<O: Write>(
+        first: &Field<'_>,
+        fields: &[Field<'_>],
+        shown: RecordFields<'_>,
+        out: &mut O,
+    ) -> io::Result<()> {
+        print_opened(first, fields, out)?;
+        print_record_members(shown, out)?;
         write!(out, "}}")
     }
 }
@@ -411,8 +453,8 @@ fn print_pairs<O: Write>(fields: &[Field<'_>], out: &mut O) -> io::Result<()>
     Ok(())
 }
 
-// Prints a field after its name, if it has no column.
-fn print_pair<O: Write>(field: &Field<'_>, out: &mut O) -> io::Result<()>
+/// Prints a field after its name, if it has no column.
+pub fn print_pair<O: Write>(field: &Field<'_>, out: &mut O) -> io::Result<()>
     ensures { OnOk result (Appends (O.contents out.old) (O.contents out.new) (pair_field (field_view field.now))) }
 {
     if field.column != 0 || field.name.is_empty() {
@@ -443,8 +485,8 @@ fn print_member<O: Write>(field: &Field<'_>, out: &mut O) -> io::Result<()>
     print_in_object(field.value, out)
 }
 
-// Prints a field as a member after a comma, if it has a name.
-fn print_next_member<O: Write>(field: &Field<'_>, out: &mut O) -> io::Result<()>
+/// Prints a field as a member after a comma, if it has a name.
+pub fn print_next_member<O: Write>(field: &Field<'_>, out: &mut O) -> io::Result<()>
     ensures { OnOk result (Appends (O.contents out.old) (O.contents out.new) (comma_member (field_view field.now))) }
 {
     if field.name.is_empty() {

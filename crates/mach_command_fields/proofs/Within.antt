@@ -10,5 +10,5 @@ pub no_more_within : (n : ℕ) (fs : List FieldPlace) → length (fields_within 
 no_more_within n [] = omega arith
 no_more_within n (f ∷ fs) = grind (arith, no_more_within n fs)
 
-pub no_more_fields : (le : Endian) (own : List ℕ) (place : ℕ) (fs : List FieldPlace) → length (fields_in le own place fs) ≤ length fs
-no_more_fields le own place fs = grind (arith, common_steps, no_more_within (length own) fs)
+pub no_more_fields : (le : Endian) (entry own : List ℕ) (place : ℕ) (fs : List FieldPlace) → length (fields_in le entry own place fs) ≤ length fs
+no_more_fields le entry own place fs = grind (arith, common_steps, no_more_within (length entry) fs)

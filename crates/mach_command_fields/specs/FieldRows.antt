@@ -26,22 +26,23 @@ number_in_field le width bytes = if width == 4 then number le 4 bytes else (if w
 abbrev pub text_bytes_in : (own : List ℕ) → (place offset : ℕ) → Option (ℕ × ℕ)
 text_bytes_in own place offset = if nat_le (length own) offset then None else Some (place_after place offset, length (run_at own offset))
 
--- The bytes that a field of such a command names. A name ends before a zero byte or with its field, and the number of a text is its offset.
-abbrev pub field_bytes_in : FieldKind → (own : List ℕ) → (place offset width number : ℕ) → Option (ℕ × ℕ)
-field_bytes_in kind.Name own place offset width n = Some (place_after place offset, length (before_first is_zero (take width (drop offset own))))
-field_bytes_in kind.Uuid own place offset width n = Some (place_after place offset, width)
-field_bytes_in kind.Text own place offset width n = text_bytes_in own place n
-field_bytes_in _ own place offset width n = None
+-- The bytes that a field names, of a command with these bytes at a place, in which a record begins. A name ends before a zero byte or with its
+-- field. The number of a text is its offset in the command.
+abbrev pub field_bytes_in : FieldKind → (entry own : List ℕ) → (place offset width number : ℕ) → Option (ℕ × ℕ)
+field_bytes_in kind.Name entry own place offset width n = Some (place_after place offset, length (before_first is_zero (take width (drop offset entry))))
+field_bytes_in kind.Uuid entry own place offset width n = Some (place_after place offset, width)
+field_bytes_in kind.Text entry own place offset width n = text_bytes_in own place n
+field_bytes_in _ entry own place offset width n = None
 
--- a field of a command with these bytes at a place
-abbrev pub field_in : Endian → (own : List ℕ) → (place : ℕ) → FieldPlace → CommandFieldView
-field_in le own place f =
+-- a field of a record with these bytes, in a command with these bytes at a place
+abbrev pub field_in : Endian → (entry own : List ℕ) → (place : ℕ) → FieldPlace → CommandFieldView
+field_in le entry own place f =
     record {
       name = f.name;
       kind = f.kind;
       width = f.width;
-      number = number_in_field le f.width (drop f.offset own);
-      bytes = field_bytes_in f.kind own place f.offset f.width (number_in_field le f.width (drop f.offset own));
+      number = number_in_field le f.width (drop f.offset entry);
+      bytes = field_bytes_in f.kind entry own place f.offset f.width (number_in_field le f.width (drop f.offset entry));
     }
 
 -- the fields that lie in the first n bytes, up to the first that doesn't
@@ -49,13 +50,22 @@ abbrev pub fields_within : (n : ℕ) → List FieldPlace → List FieldPlace
 fields_within n [] = []
 fields_within n (f ∷ fs) = if nat_le (f.offset + f.width) n then f ∷ fields_within n fs else []
 
--- these fields of a command, as far as its bytes hold them
-abbrev pub fields_in : Endian → (own : List ℕ) → (place : ℕ) → List FieldPlace → List CommandFieldView
-fields_in le own place fields = map (field_in le own place) (fields_within (length own) fields)
+-- these fields of a record, as far as its bytes hold them
+abbrev pub fields_in : Endian → (entry own : List ℕ) → (place : ℕ) → List FieldPlace → List CommandFieldView
+fields_in le entry own place fields = map (field_in le entry own place) (fields_within (length entry) fields)
 
--- the fields of the command of `size` bytes at a place, by its number; no more bytes count than are there
+-- the bytes of the command of `size` bytes at a place; no more bytes count than are there
+abbrev pub command_bytes : List ℕ → (place size : ℕ) → List ℕ
+command_bytes bytes place size = take size (drop place bytes)
+
+-- its fields, by its number: those that its bytes hold
 abbrev pub fields_at : Endian → List ℕ → (place size cmd : ℕ) → List CommandFieldView
-fields_at le bytes place size cmd = fields_in le (take size (drop place bytes)) place (fields_of_command cmd)
+fields_at le bytes place size cmd =
+    fields_in le (command_bytes bytes place size) (command_bytes bytes place size) place (fields_of_command cmd)
+
+-- The same of its record as it is read, whatever its size: those that the bytes from its place on hold. Texts lie in the command.
+abbrev pub record_fields_at : Endian → List ℕ → (place size cmd : ℕ) → List CommandFieldView
+record_fields_at le bytes place size cmd = fields_in le (drop place bytes) (command_bytes bytes place size) place (fields_of_command cmd)
 
 -- what a caller sees of a field
 abbrev pub field_seen : CommandField → CommandFieldView
@@ -63,7 +73,7 @@ field_seen f = record { name = f.name.now; kind = f.kind; width = f.width; numbe
 
 -- the fields that are left
 abbrev pub fields_left : CommandFields → List CommandFieldView
-fields_left it = fields_in it.le it.own.now it.place (map field_place it.rest.now)
+fields_left it = fields_in it.le it.entry.now it.own.now it.place (map field_place it.rest.now)
 
 -- a name as a text of 24 bytes: its first bytes, 23 at most, and zeros
 abbrev pub padded_name : List ℕ → List ℕ

@@ -1,10 +1,10 @@
 //! The fields of a load command, one after another.
 
-ghost use Rattle.std.specs.Prelude.{◌≡◌, ◌+◌, ◌≤◌, drop, length, take};
+ghost use Rattle.std.specs.Prelude.{◌≡◌, ◌+◌, ◌≤◌, drop, length};
 ghost use Rattle.std.specs.Iterator.{YieldsFirstBy};
 ghost use Rattle.mach_command_fields.specs.CommandTables.{field_place};
-ghost use Rattle.mach_command_fields.specs.FieldRows.{field_bytes_in, field_in, number_in_field, field_seen, fields_at, fields_left, padded_name};
-ghost use Rattle.mach_command_fields.specs.FieldRows.{text_bytes_in};
+ghost use Rattle.mach_command_fields.specs.FieldRows.{command_bytes, field_bytes_in, field_in, number_in_field, field_seen, fields_at, fields_left};
+ghost use Rattle.mach_command_fields.specs.FieldRows.{padded_name, record_fields_at, text_bytes_in};
 
 use crate::kind::FieldKind;
 use crate::tables::{PlacedField, fields_of};
@@ -42,28 +42,38 @@ impl CommandField {
 /// The fields of a load command that are left.
 #[derive(Clone, Copy)]
 pub struct CommandFields<'a> {
+    // The bytes in which the record is read.
+    entry: &'a [u8],
+    // The bytes of the command, which have its texts.
     own: &'a [u8],
     place: usize,
     le: Endian,
     rest: &'static [PlacedField],
 }
 
-// Returns the `size` bytes from a place on, or those that are there.
-fn part_at(bytes: &[u8], place: usize, size: usize) -> &[u8]
-    ensures { result.now ≡ take size (drop place bytes.now) }
+// Returns the bytes from a place on, none past their end.
+fn rest_from(bytes: &[u8], place: usize) -> &[u8]
+    ensures { result.now ≡ drop place bytes.now }
 {
-    let rest = &bytes[place.min(bytes.len())..];
+    &bytes[place.min(bytes.len())..]
+}
+
+/// Returns the `size` bytes from a place on, or those that are there.
+pub fn command_bytes(bytes: &[u8], place: usize, size: usize) -> &[u8]
+    ensures { result.now ≡ command_bytes bytes.now place size }
+{
+    let rest = rest_from(bytes, place);
     &rest[..size.min(rest.len())]
 }
 
 // Returns the number of a field of four or of eight bytes, and 0 of others.
-fn number_at(own: &[u8], le: Endian, place: usize, width: u32) -> u64
-    requires { place + width ≤ length own.now }
-    ensures { result ≡ number_in_field le width (drop place own.now) }
+fn number_at(bytes: &[u8], le: Endian, place: usize, width: u32) -> u64
+    requires { place + width ≤ length bytes.now }
+    ensures { result ≡ number_in_field le width (drop place bytes.now) }
 {
     match width {
-        4 => u64::from(le.u32_at(own, place)),
-        8 => le.u64_at(own, place),
+        4 => u64::from(le.u32_at(bytes, place)),
+        8 => le.u64_at(bytes, place),
         _ => 0,
     }
 }
@@ -75,8 +85,24 @@ impl<'a> CommandFields<'a> {
         ensures fields { fields_left result ≡ fields_at le bytes.now place size cmd }
         ensures most { length (fields_left result) ≤ 18 }
     {
+        let own = command_bytes(bytes, place, size);
         CommandFields {
-            own: part_at(bytes, place, size),
+            entry: own,
+            own,
+            place,
+            le,
+            rest: fields_of(cmd),
+        }
+    }
+
+    /// Returns the fields of its record as it is read, whatever the command's size. They end before the first that the bytes from the
+    /// place on don't hold. Texts lie in the command.
+    pub fn of_record(bytes: &'a [u8], le: Endian, place: usize, size: usize, cmd: u32) -> Self
+        ensures { fields_left result ≡ record_fields_at le bytes.now place size cmd }
+    {
+        CommandFields {
+            entry: rest_from(bytes, place),
+            own: command_bytes(bytes, place, size),
             place,
             le,
             rest: fields_of(cmd),
@@ -85,14 +111,15 @@ impl<'a> CommandFields<'a> {
 
     // Returns the place and the length of the bytes that a field names.
     fn bytes_of(&self, field: &PlacedField, number: u64) -> Option<(usize, usize)>
-        requires { let f = field_place field.now in f.offset + f.width ≤ length self.now.own.now }
-        ensures { let f = field_place field.now in result ≡ field_bytes_in f.kind self.now.own.now self.now.place f.offset f.width number }
+        requires { let f = field_place field.now in f.offset + f.width ≤ length self.now.entry.now }
+        ensures { let f = field_place field.now in
+            result ≡ field_bytes_in f.kind self.now.entry.now self.now.own.now self.now.place f.offset f.width number }
     {
         let (_, kind, offset, width) = *field;
         let (offset, width) = (offset as usize, width as usize);
         let from = self.place.saturating_add(offset);
         match kind {
-            FieldKind::Name => Some((from, before_zero(&self.own[offset..offset + width]).len())),
+            FieldKind::Name => Some((from, before_zero(&self.entry[offset..offset + width]).len())),
             FieldKind::Uuid => Some((from, width)),
             FieldKind::Text => self.text_at(number as usize),
             _ => None,
@@ -112,11 +139,11 @@ impl<'a> CommandFields<'a> {
 
     // Returns a field that the command's bytes hold.
     fn field(&self, field: &PlacedField) -> CommandField
-        requires { let f = field_place field.now in f.offset + f.width ≤ length self.now.own.now }
-        ensures { field_seen result ≡ field_in self.now.le self.now.own.now self.now.place (field_place field.now) }
+        requires { let f = field_place field.now in f.offset + f.width ≤ length self.now.entry.now }
+        ensures { field_seen result ≡ field_in self.now.le self.now.entry.now self.now.own.now self.now.place (field_place field.now) }
     {
         let (name, kind, offset, width) = *field;
-        let number = number_at(self.own, self.le, offset as usize, width);
+        let number = number_at(self.entry, self.le, offset as usize, width);
         CommandField {
             name,
             kind,
@@ -134,7 +161,7 @@ impl<'a> CommandFields<'a> {
             return None;
         };
         let (_, _, offset, width) = *field;
-        if offset as usize + width as usize > self.own.len() {
+        if offset as usize + width as usize > self.entry.len() {
             return None;
         }
         let found = self.field(field);

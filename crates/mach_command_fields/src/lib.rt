@@ -1,4 +1,4 @@
-//! The fields of load commands for C, which gets no texts: their names, and their values as numbers, or as places and lengths.
+//! The fields of load commands by tables: their names, and their values as numbers, or as places and lengths.
 #![tactic(auto)]
 
 mod fields;
@@ -6,6 +6,6 @@ mod kind;
 mod tables;
 mod zero;
 
-pub use crate::fields::{CommandField, CommandFields};
+pub use crate::fields::{CommandField, CommandFields, command_bytes};
 pub use crate::kind::FieldKind;
 pub use crate::zero::before_zero;

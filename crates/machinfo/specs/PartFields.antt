@@ -1,6 +1,6 @@
 -- What the rows of parts of an image show, field by field: as lines, and as objects of JSON (`mach-o/loader.h`).
 use Rattle.std.specs.Prelude.{◌==◌, ◌&&◌, ◌∷◌, ◌++◌, ℕ, ◌-◌, ◌/◌, ◌%◌, List, []}
-use Rattle.std.specs.Prelude.{codes, length, map, bit_and, Bool, not, Option, Some, None, option_map, if◌then◌else◌}
+use Rattle.std.specs.Prelude.{codes, length, map, bit_and, bytes_eq, Bool, not, Option, Some, None, option_map, if◌then◌else◌}
 use Rattle.mach_base.specs.Named.{Named, name_or}
 use Rattle.mach_parts.specs.Cpu.{caps_of_cpu, kind_of_cpu}
 use Rattle.mach_parts.specs.HeaderNames.{flag_name, flag_names}
@@ -12,7 +12,6 @@ use Rattle.mach_cli.specs.Fields.{FieldView, ValueView, alone_field, field_of, f
 use Rattle.mach_cli.specs.Fields.{text, uuid, wide_field}
 use Rattle.mach_records.specs.CpuNames.{arch_rows, cpu_named}
 use Rattle.mach_cli.specs.ImageKinds.{image_kind}
-use Rattle.machinfo.specs.CommandFields.{if_known}
 use Rattle.machinfo.specs.Parts.{EntryView, PartRowView, entry_part, header_part, rpath_part, section_part, segment_part, uuid_part}
 use Rattle.mach_cli.specs.JsonText.{if_not_empty, name_in_field}
 use Rattle.mach_records.specs.NumberNames.{rights_text}
@@ -24,6 +23,10 @@ use Rattle.machinfo.specs.declared.sections.SectionRow.{SectionRow}
 abbrev pub text_or_dash : Option (List ℕ) → List ℕ
 text_or_dash None = codes "-"
 text_or_dash (Some t) = if length t == 0 then codes "-" else t
+
+-- a name, or nothing if it is the one of all that have none
+abbrev pub if_known : (unknown name : List ℕ) → List ℕ
+if_known unknown name = if bytes_eq name unknown then [] else name
 
 -- the column of a field that a line has only if something is so
 abbrev pub column_if : Bool → (column : ℕ) → ℕ

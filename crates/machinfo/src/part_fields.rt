@@ -4,14 +4,13 @@ ghost use Rattle.std.specs.Prelude.{◌≡◌, map, option_map, OnOk};
 ghost use Rattle.std.specs.Io.KnownBytes.{Appends};
 ghost use Rattle.mach_dyld.specs.Exports.{text_in};
 ghost use Rattle.mach_parts.specs.Segment.{segment_view};
-ghost use Rattle.mach_cli.specs.Fields.{field_view};
+ghost use Rattle.mach_cli.specs.Fields.{field_view, named, value_view};
 ghost use Rattle.machinfo.specs.Parts.{entry_symbol_view, entry_view, part_row_view};
-ghost use Rattle.machinfo.specs.PartFields.{above_field, entry_distance_field, entry_part_fields, header_flag, header_flags, header_members};
+ghost use Rattle.machinfo.specs.PartFields.{above_field, entry_distance_field, entry_part_fields, header_flag, header_flags, header_members, if_known};
 ghost use Rattle.machinfo.specs.PartFields.{name_of_found, entry_symbol_name};
 ghost use Rattle.machinfo.specs.PartFields.{part_fields, rpath_part_fields, section_members, section_type_name, segment_of_found};
 ghost use Rattle.machinfo.specs.PartFields.{segment_part_fields, stub_fields, stubs_in, text_or_dash, uuid_part_fields};
 
-use crate::command_fields::{named, rights};
 use crate::fields::{column_if, flag_field};
 use crate::parts::{EntryRow, EntrySymbol, PartRow, UuidRow};
 use crate::sections::SectionRow;
@@ -27,7 +26,7 @@ use goblin_mach::header::{
 use goblin_mach::load_command::Section64;
 use goblin_mach::names::cpu_name;
 use goblin_mach::segment::{NumberedSection, Segment};
-use mach_cli::{Field, FieldsForm, Value, if_not_empty, image_kind, name_in_field};
+use mach_cli::{Field, FieldsForm, Value, if_not_empty, image_kind, name_in_field, rights};
 use std::io;
 use std::io::Write;
 
@@ -50,6 +49,13 @@ pub fn write_part<F: FieldsForm, O: Write>(row: &PartRow<'_, '_>, out: &mut O) -
             out,
         ),
     }
+}
+
+// Returns a number by its name, unless that is the one of all that have none.
+fn named(number: u32, name: &'static str, unknown: &'static str) -> Value<'static>
+    ensures { value_view result ≡ named number (if_known unknown.now name.now) }
+{
+    Value::Named(u64::from(number), if name == unknown { "" } else { name })
 }
 
 /// Returns a text, `-` if there is none or it is empty.

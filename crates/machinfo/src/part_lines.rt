@@ -9,7 +9,7 @@ ghost use Rattle.machinfo.specs.declared.word.Part.TheVariants.{Entry, Sections,
 use crate::list_lines::print_in_form;
 use crate::word::{Part, Word};
 use goblin_mach::MachO;
-use mach_cli::{Field, FieldsForm, Line};
+use mach_cli::{Field, FieldsForm, Line, RecordFields};
 use std::alloc::Allocator;
 use std::io;
 use std::io::Write;
@@ -29,6 +29,16 @@ impl FieldsForm for EntryLine {
         write!(out, "entry: ")?;
         Line::write_both(fields, others, out)
     }
+
+    fn write_record<O: Write>(
+        first: &Field<'_>,
+        fields: &[Field<'_>],
+        shown: RecordFields<'_>,
+        out: &mut O,
+    ) -> io::Result<()> {
+        write!(out, "entry: ")?;
+        Line::write_record(first, fields, shown, out)
+    }
 }
 
 // The line of a segment.
@@ -46,6 +56,16 @@ impl FieldsForm for SegmentLine {
         write!(out, "segment: ")?;
         Line::write_both(fields, others, out)
     }
+
+    fn write_record<O: Write>(
+        first: &Field<'_>,
+        fields: &[Field<'_>],
+        shown: RecordFields<'_>,
+        out: &mut O,
+    ) -> io::Result<()> {
+        write!(out, "segment: ")?;
+        Line::write_record(first, fields, shown, out)
+    }
 }
 
 // The line of a section.
@@ -62,6 +82,16 @@ impl FieldsForm for SectionLine {
     ) -> io::Result<()> {
         write!(out, "section: ")?;
         Line::write_both(fields, others, out)
+    }
+
+    fn write_record<O: Write>(
+        first: &Field<'_>,
+        fields: &[Field<'_>],
+        shown: RecordFields<'_>,
+        out: &mut O,
+    ) -> io::Result<()> {
+        write!(out, "section: ")?;
+        Line::write_record(first, fields, shown, out)
     }
 }
 

@@ -62,12 +62,12 @@ pub fn if_not_empty<'a>(text: Option<&'a str>) -> Option<&'a str>
     if text.is_empty() { None } else { Some(text) }
 }
 
-// Returns the name with which a field begins, if it can be read.
-fn text_of(field: &[u8]) -> Option<&str>
-    ensures { text_in result ≡ result_ok (text_at field.now 0) }
+/// Returns the text that begins at a place of some bytes, if there is one.
+pub fn text_at(bytes: &[u8], place: usize) -> Option<&str>
+    ensures { text_in result ≡ result_ok (text_at bytes.now place) }
 {
-    match read_text(field, 0) {
-        Ok(name) => Some(name),
+    match read_text(bytes, place) {
+        Ok(text) => Some(text),
         Err(_) => None,
     }
 }
@@ -76,5 +76,5 @@ fn text_of(field: &[u8]) -> Option<&str>
 pub fn name_in_field(field: &[u8]) -> Option<&str>
     ensures { text_in result ≡ name_in_field field.now }
 {
-    if_not_empty(text_of(field))
+    if_not_empty(text_at(field, 0))
 }

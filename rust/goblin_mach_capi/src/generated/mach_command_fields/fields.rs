@@ -44,23 +44,37 @@ impl CommandField {
 /// The fields of a load command that are left.
 #[derive(Clone, Copy)]
 pub struct CommandFields<'a> {
+    // The bytes in which the record is read.
+    entry: &'a [u8],
+    // The bytes of the command, which have its texts.
     own: &'a [u8],
     place: usize,
     le: Endian,
     rest: &'static [PlacedField],
 }
 
-// Returns the `size` bytes from a place on, or those that are there.
-fn part_at(bytes: &[u8], place: usize, size: usize) -> &[u8] {
-    let rest = &bytes[place.min(bytes.len())..];
+// Returns the bytes from a place on, none past their end.
+fn rest_from(bytes: &[u8], place: usize) -> &[u8] {
+    &bytes[place.min(bytes.len())..]
+}
+
+/// Returns the `size` bytes from a place on, or those that are there.
+///
+/// <details><summary>Proved</summary>
+///
+/// - `result ≡ command_bytes bytes place size`
+///
+/// </details>
+pub fn command_bytes(bytes: &[u8], place: usize, size: usize) -> &[u8] {
+    let rest = rest_from(bytes, place);
     &rest[..size.min(rest.len())]
 }
 
 // Returns the number of a field of four or of eight bytes, and 0 of others.
-fn number_at(own: &[u8], le: Endian, place: usize, width: u32) -> u64 {
+fn number_at(bytes: &[u8], le: Endian, place: usize, width: u32) -> u64 {
     match width {
-        4 => u64::from(le.u32_at(own, place)),
-        8 => le.u64_at(own, place),
+        4 => u64::from(le.u32_at(bytes, place)),
+        8 => le.u64_at(bytes, place),
         _ => 0,
     }
 }
@@ -76,8 +90,28 @@ impl<'a> CommandFields<'a> {
     ///
     /// </details>
     pub fn of(bytes: &'a [u8], le: Endian, place: usize, size: usize, cmd: u32) -> Self {
+        let own = command_bytes(bytes, place, size);
         CommandFields {
-            own: part_at(bytes, place, size),
+            entry: own,
+            own,
+            place,
+            le,
+            rest: fields_of(cmd),
+        }
+    }
+
+    /// Returns the fields of its record as it is read, whatever the command's size. They end before the first that the bytes from the
+    /// place on don't hold. Texts lie in the command.
+    ///
+    /// <details><summary>Proved</summary>
+    ///
+    /// - `fields_left result ≡ record_fields_at le bytes place size cmd`
+    ///
+    /// </details>
+    pub fn of_record(bytes: &'a [u8], le: Endian, place: usize, size: usize, cmd: u32) -> Self {
+        CommandFields {
+            entry: rest_from(bytes, place),
+            own: command_bytes(bytes, place, size),
             place,
             le,
             rest: fields_of(cmd),
@@ -90,7 +124,7 @@ impl<'a> CommandFields<'a> {
         let (offset, width) = (offset as usize, width as usize);
         let from = self.place.saturating_add(offset);
         match kind {
-            FieldKind::Name => Some((from, before_zero(&self.own[offset..offset + width]).len())),
+            FieldKind::Name => Some((from, before_zero(&self.entry[offset..offset + width]).len())),
             FieldKind::Uuid => Some((from, width)),
             FieldKind::Text => self.text_at(number as usize),
             _ => None,
@@ -109,7 +143,7 @@ impl<'a> CommandFields<'a> {
     // Returns a field that the command's bytes hold.
     fn field(&self, field: &PlacedField) -> CommandField {
         let (name, kind, offset, width) = *field;
-        let number = number_at(self.own, self.le, offset as usize, width);
+        let number = number_at(self.entry, self.le, offset as usize, width);
         CommandField {
             name,
             kind,
@@ -131,7 +165,7 @@ impl<'a> CommandFields<'a> {
             return None;
         };
         let (_, _, offset, width) = *field;
-        if offset as usize + width as usize > self.own.len() {
+        if offset as usize + width as usize > self.entry.len() {
             return None;
         }
         let found = self.field(field);

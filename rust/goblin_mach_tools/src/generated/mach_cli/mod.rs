@@ -35,6 +35,7 @@ mod listing;
 mod names;
 mod nm_heading;
 mod origins;
+mod record_fields;
 mod refusal;
 mod signing;
 mod sink;
@@ -115,6 +116,7 @@ pub use crate::generated::mach_cli::parts::shown::{ShownPart, shown_part};
 pub use crate::generated::mach_cli::parts::{Parts, items_shown, parts_of};
 pub use crate::generated::mach_cli::program::{Output, Program};
 pub use crate::generated::mach_cli::progress::Progress;
+pub use crate::generated::mach_cli::record_fields::{RecordFields, rights};
 pub use crate::generated::mach_cli::refusal::{Refusal, complain, refusal_of};
 pub use crate::generated::mach_cli::section_names::{section_name_with, stretch_name};
 pub use crate::generated::mach_cli::signing::{

@@ -3,9 +3,8 @@
 #![forbid(unsafe_code)]
 
 use crate::generated::mach_cli::{
-    Field, FieldsForm, Value, if_not_empty, image_kind, name_in_field,
+    Field, FieldsForm, Value, if_not_empty, image_kind, name_in_field, rights,
 };
-use crate::generated::machinfo::command_fields::{named, rights};
 use crate::generated::machinfo::fields::{column_if, flag_field};
 use crate::generated::machinfo::parts::{EntryRow, EntrySymbol, PartRow, UuidRow};
 use crate::generated::machinfo::sections::SectionRow;
@@ -45,6 +44,11 @@ pub fn write_part<F: FieldsForm, O: Write>(row: &PartRow<'_, '_>, out: &mut O) -
             F::write_both(&header_members(header), &header_flags(header.flags), out)
         }
     }
+}
+
+// Returns a number by its name, unless that is the one of all that have none.
+fn named(number: u32, name: &'static str, unknown: &'static str) -> Value<'static> {
+    Value::Named(u64::from(number), if name == unknown { "" } else { name })
 }
 
 /// Returns a text, `-` if there is none or it is empty.

@@ -2,7 +2,7 @@
 //! The lines of the summary for the entry point, the segments and the sections of an image.
 #![forbid(unsafe_code)]
 
-use crate::generated::mach_cli::{Field, FieldsForm, Line};
+use crate::generated::mach_cli::{Field, FieldsForm, Line, RecordFields};
 use crate::generated::machinfo::list_lines::print_in_form;
 use crate::generated::machinfo::word::{Part, Word};
 use crate::shim::io;
@@ -22,6 +22,16 @@ impl FieldsForm for EntryLine {
         write!(out, "entry: ")?;
         Line::write_both(fields, others, out)
     }
+
+    fn write_record<O: Write>(
+        first: &Field<'_>,
+        fields: &[Field<'_>],
+        shown: RecordFields<'_>,
+        out: &mut O,
+    ) -> io::Result<()> {
+        write!(out, "entry: ")?;
+        Line::write_record(first, fields, shown, out)
+    }
 }
 
 // The line of a segment.
@@ -37,6 +47,16 @@ impl FieldsForm for SegmentLine {
         write!(out, "segment: ")?;
         Line::write_both(fields, others, out)
     }
+
+    fn write_record<O: Write>(
+        first: &Field<'_>,
+        fields: &[Field<'_>],
+        shown: RecordFields<'_>,
+        out: &mut O,
+    ) -> io::Result<()> {
+        write!(out, "segment: ")?;
+        Line::write_record(first, fields, shown, out)
+    }
 }
 
 // The line of a section.
@@ -51,6 +71,16 @@ impl FieldsForm for SectionLine {
     ) -> io::Result<()> {
         write!(out, "section: ")?;
         Line::write_both(fields, others, out)
+    }
+
+    fn write_record<O: Write>(
+        first: &Field<'_>,
+        fields: &[Field<'_>],
+        shown: RecordFields<'_>,
+        out: &mut O,
+    ) -> io::Result<()> {
+        write!(out, "section: ")?;
+        Line::write_record(first, fields, shown, out)
     }
 }
 

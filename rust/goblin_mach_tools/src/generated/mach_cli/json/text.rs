@@ -62,10 +62,16 @@ pub fn if_not_empty<'a>(text: Option<&'a str>) -> Option<&'a str> {
     if text.is_empty() { None } else { Some(text) }
 }
 
-// Returns the name with which a field begins, if it can be read.
-fn text_of(field: &[u8]) -> Option<&str> {
-    match read_text(field, 0) {
-        Ok(name) => Some(name),
+/// Returns the text that begins at a place of some bytes, if there is one.
+///
+/// <details><summary>Proved</summary>
+///
+/// - `text_in result ≡ result_ok (text_at bytes place)`
+///
+/// </details>
+pub fn text_at(bytes: &[u8], place: usize) -> Option<&str> {
+    match read_text(bytes, place) {
+        Ok(text) => Some(text),
         Err(_) => None,
     }
 }
@@ -78,5 +84,5 @@ fn text_of(field: &[u8]) -> Option<&str> {
 ///
 /// </details>
 pub fn name_in_field(field: &[u8]) -> Option<&str> {
-    if_not_empty(text_of(field))
+    if_not_empty(text_at(field, 0))
 }
