@@ -1,6 +1,7 @@
-"""Reads items and expressions of Rattle, as far as tools/schemas asks for them.
+"""Reads items and expressions of Rattle, as far as the functions have them that tools/schemas follows. It stops at another expression.
 
-An expression is a tuple that begins with its kind. `opaque` is one of which nothing is known. A pattern is a tuple, too.
+An expression is a tuple that begins with its kind, and so is a pattern. Of an expression `opaque` nothing is kept, such as of a sum. A pattern
+`opaque` may meet any value.
 """
 from erase_rust.lexer import IDLE, Lexer, Stop
 
@@ -123,8 +124,6 @@ class Items(Cursor):
         """Reads the items into their source."""
         read = {"fn": self.function, "impl": self.implementation, "enum": self.enumeration, "struct": self.structure, "const": self.constant, "use": self.use}
         while self.at < self.end:
-            if self.text() == "const" and self.text(1) == "fn":
-                self.at += 1
             found = read.get(self.text())
             if found:
                 self.at += 1
@@ -309,7 +308,7 @@ class Parser(Cursor):
     def primary(self, bare):
         """Reads a literal, a path, or what a word or a bracket begins."""
         begins = {"(": self.tuple, "[": self.array, "{": self.block, "match": self.match, "if": self.conditional, "return": self.leave,
-                  "break": self.leave, "continue": self.leave, "while": self.loop, "for": self.loop, "loop": self.loop, "|": self.closure, "||": self.closure}
+                  "break": self.leave, "continue": self.leave, "while": self.loop, "for": self.loop, "loop": self.loop}
         if self.kind() == "lifetime":
             self.at += 1
             self.needs(":")
@@ -363,12 +362,7 @@ class Parser(Cursor):
         return found[0] if len(found) == 1 and not is_tuple else ("tuple", tuple(found))
 
     def array(self):
-        """Reads an array; one of `[value; count]` is opaque."""
-        end = self.source.pair[self.at]
-        depth = [i for i in range(self.at + 1, end) if self.tokens[i].text == ";"]
-        if depth:
-            self.skip()
-            return OPAQUE
+        """Reads an array."""
         return ("array", tuple(self.listed(self.expression)))
 
     def match(self):
@@ -416,14 +410,6 @@ class Parser(Cursor):
             self.expression(bare=True)
         return ("loop", self.block())
 
-    def closure(self):
-        """Reads a closure, of which nothing is known."""
-        if self.take() == "|":
-            while not self.takes("|"):
-                self.skip()
-        self.expression()
-        return OPAQUE
-
     def pattern(self):
         """Reads a pattern, with those after a `|`."""
         found = [self.one_pattern()]
@@ -433,8 +419,10 @@ class Parser(Cursor):
 
     def one_pattern(self):
         """Reads a pattern. One of a number, of a range or of a slice may be met."""
-        while self.takes("&", "mut", "ref") or self.kind() == "lifetime" and self.take():
-            pass
+        while self.takes("&", "ref") or self.kind() == "lifetime" and self.take():
+            self.takes("mut")
+        if self.takes("mut"):
+            return ("variable", self.take())
         if self.takes("_", ".."):
             return ANY
         if self.text() == "(":
@@ -460,9 +448,6 @@ class Parser(Cursor):
             return ("made", names, tuple((str(n), part) for n, part in enumerate(parts)))
         if self.text() == "{":
             return ("made", names, tuple(self.listed(self.field_pattern)))
-        if self.takes("@"):
-            self.pattern()
-            return ("name", names[0])
         if len(names) == 1 and not names[0][0].isupper():
             return ("name", names[0])
         return ("constant", names[-1]) if names[-1].isupper() and len(names[-1]) > 1 else ("made", names, ())

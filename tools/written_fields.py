@@ -1,7 +1,7 @@
 """Reads which fields the programs write of an item, from their sources. Each branch counts that may be taken, given what is known.
 
-An expression has some values: those that it may have. A value is a text, a boolean, or one of the three kinds below. Numbers, and what functions
-return that are in none of the files that were read, are unknown.
+An expression has some values: those that it may have. A value is a text, a boolean, or one of the three kinds below. Unknown are numbers, variables
+that are `mut`, and what functions return that are in none of the files that were read. That a method changes what its `self` has isn't followed.
 """
 import os
 from collections import namedtuple
@@ -283,6 +283,8 @@ class Reader:
         kind = pattern[0]
         if kind == "name":
             found.setdefault(pattern[1], []).append((value,))
+        elif kind == "variable":
+            found[pattern[1]] = [NOTHING_KNOWN]
         elif kind == "literal":
             return value == pattern[1] or isinstance(value, Unknown)
         elif kind == "either":
@@ -318,4 +320,4 @@ class Reader:
                 all(self.is_met(part, it, frame) for it in known.get(name, NOTHING_KNOWN)) for name, part in pattern[2] if name != "..")
         if kind == "tuple" and isinstance(value, Parts) and len(value.parts) == len(pattern[1]):
             return all(all(self.is_met(part, it, frame) for it in values) for part, values in zip(pattern[1], value.parts))
-        return kind in ("name", "any") or kind == "literal" and value == pattern[1]
+        return kind in ("name", "variable", "any") or kind == "literal" and value == pattern[1]
