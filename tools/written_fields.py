@@ -40,7 +40,7 @@ class Reader:
     """What some sources say: folders and files within a folder."""
 
     def __init__(self, top, *paths):
-        self.sources = {}
+        self.paths, self.sources = paths, {}
         for path in paths:
             place = os.path.join(top, path)
             inner = sorted(os.path.join(folder, name) for folder, _, names in os.walk(place) for name in names if name.endswith(".rt"))
@@ -56,14 +56,14 @@ class Reader:
         """Returns the only function with this name in the files whose paths end so. That of a type has the name `TYPE::FUNCTION`."""
         found = [source.functions[name] for path, source in self.sources.items() if name in source.functions and path.endswith(file)]
         if len(found) != 1:
-            raise Stop("%d functions %s in %s" % (len(found), name, file or "all files"))
+            raise Stop("%d functions %s, where one is wanted, in %s" % (len(found), name, file or ", ".join(self.paths)))
         return found[0]
 
     def constant(self, name):
         """Returns the only value of the first constant with this name."""
         source = next((source for source in self.sources.values() if name in source.constants), None)
         if source is None:
-            raise Stop("no constant " + name)
+            raise Stop("no constant %s in %s" % (name, ", ".join(self.paths)))
         value, = self.value(Parser(source, source.constants[name]).expression(), {}, Frame(None, source))
         return value
 
