@@ -12,7 +12,7 @@ use crate::zero::before_zero;
 use mach_base::Endian;
 
 /// A field of a load command.
-#[derive(Clone, Copy)]
+#[derive(Clone, Copy, Debug)]
 pub struct CommandField {
     /// Its name in the format.
     pub name: &'static str,

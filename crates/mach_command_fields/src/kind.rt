@@ -1,7 +1,7 @@
 //! How the fields of load commands are read.
 
 /// How a field is read.
-#[derive(Clone, Copy)]
+#[derive(Clone, Copy, Debug)]
 pub enum FieldKind {
     /// A number.
     Number,

@@ -36,6 +36,7 @@ pub use facade::resolve;
 pub use facade::{Object, bytes, container, debug, error, mach};
 #[cfg(feature = "archive")]
 pub use generated::mach_archive as archive;
+pub use generated::mach_command_fields as command_fields;
 #[cfg(feature = "write")]
 pub use generated::mach_fat_writer as write;
 #[cfg(feature = "signature")]

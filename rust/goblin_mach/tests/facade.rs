@@ -364,3 +364,32 @@ fn signatures_of_images() {
     }
     assert!(signed > 0);
 }
+
+#[test]
+fn fields_of_commands_are_those_of_their_records() {
+    let bytes = include_bytes!("data/executable.macho");
+    let image = MachO::parse(bytes, 0).unwrap();
+    let mut segments = image.segments.iter();
+    let mut counted = 0;
+    for command in &image.load_commands {
+        let fields: Vec<_> = image.command_fields(command).collect();
+        if command.command.cmd() != 0x19 {
+            continue;
+        }
+        let segment = segments.next().unwrap();
+        let number = |name| fields.iter().find(|it| it.name == name).unwrap().number;
+        assert_eq!(
+            (number("vmaddr"), number("fileoff")),
+            (segment.vmaddr, segment.fileoff)
+        );
+        assert_eq!(number("nsects"), segment.nsects.into());
+        assert_eq!(
+            fields[0].bytes_in(bytes),
+            segment.name().ok().map(str::as_bytes)
+        );
+        assert_eq!((fields.len(), fields[1].bytes_in(bytes)), (9, None));
+        counted += 1;
+    }
+    assert_eq!(counted, image.segments.len());
+    assert!(counted > 1);
+}

@@ -15,6 +15,7 @@ use core::{fmt, ops};
 #[cfg(feature = "signature")]
 pub mod audit;
 pub mod bytes;
+mod command_fields;
 mod constants;
 pub mod debug;
 mod image;

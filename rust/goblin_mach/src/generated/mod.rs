@@ -12,6 +12,7 @@ pub mod mach_archive;
 pub mod mach_audit;
 pub mod mach_base;
 pub mod mach_chained;
+pub mod mach_command_fields;
 pub mod mach_dyld;
 #[cfg(feature = "write")]
 pub mod mach_fat_writer;

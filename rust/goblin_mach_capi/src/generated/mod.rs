@@ -5,4 +5,3 @@
 
 pub mod goblin_mach_c;
 pub mod mach_c_places;
-pub mod mach_command_fields;

@@ -4,7 +4,6 @@
 #![allow(dead_code, unused_imports, unused_variables)]
 
 pub mod mach_cli;
-pub mod mach_command_fields;
 pub mod machaudit;
 pub mod machdump;
 pub mod machfat;

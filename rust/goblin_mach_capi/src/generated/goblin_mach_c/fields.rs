@@ -6,7 +6,7 @@ use crate::generated::goblin_mach_c::commands::gm_command;
 use crate::generated::goblin_mach_c::images::{ctx_of, gm_image};
 use crate::generated::goblin_mach_c::open::flag;
 use crate::generated::goblin_mach_c::rows::{Rows, fill, skip};
-use crate::generated::mach_command_fields::{CommandField, CommandFields, FieldKind};
+use goblin_mach::command_fields::{CommandField, CommandFields, FieldKind};
 
 /// A field of a load command's record. If `has_bytes`, its name, its text or its UUID is `len` bytes at `place`; if not, both are 0.
 #[derive(Clone, Copy)]

@@ -6,7 +6,7 @@ use crate::generated::goblin_mach_c::errors::{GM_OK, code_of};
 use crate::generated::goblin_mach_c::images::{ctx_of, gm_image};
 use crate::generated::goblin_mach_c::layout::from;
 use crate::generated::goblin_mach_c::rows::{Rows, fill};
-use crate::generated::mach_command_fields::before_zero;
+use goblin_mach::command_fields::before_zero;
 use goblin_mach::symbols::{Nlist, Nlist32, Nlist64, Symbols};
 use goblin_mach::{Container, Ctx, Error, Record, Result, SizeWith, read_text};
 

@@ -4,12 +4,10 @@
 
 use crate::generated::mach_cli::fields::{Field, Value, print_next_member, print_pair};
 use crate::generated::mach_cli::json::text::{name_in_field, text_at};
-use crate::generated::mach_command_fields::{
-    CommandField, CommandFields, FieldKind, command_bytes,
-};
 use crate::shim::io;
 use crate::shim::io::Write;
 use goblin_mach::Endian;
+use goblin_mach::command_fields::{CommandField, CommandFields, FieldKind, command_bytes};
 use goblin_mach::names::{platform_name, rights_name};
 
 // Returns the low 32 bits of a number, which are all of one of four bytes.

@@ -3,10 +3,10 @@
 #![forbid(unsafe_code)]
 
 use crate::generated::mach_cli::{Field, FieldsForm, RecordFields, Value};
-use crate::generated::mach_command_fields::command_bytes;
 use crate::generated::machinfo::commands::NumberedCommand;
 use crate::shim::io;
 use crate::shim::io::Write;
+use goblin_mach::command_fields::command_bytes;
 use goblin_mach::load_command::{LoadCommand, command_name};
 
 /// Writes the fields of a command in a form: its number, its offset, its size and its name, and then those of its record.

@@ -2,15 +2,16 @@
 //! The fields of a load command, one after another.
 #![forbid(unsafe_code)]
 
-use goblin_mach::internals::shim::ReadsNumbers;
+use crate::shim::ReadsNumbers;
 
+use crate::generated::mach_base::Endian;
 use crate::generated::mach_command_fields::kind::FieldKind;
 use crate::generated::mach_command_fields::tables::{PlacedField, fields_of};
 use crate::generated::mach_command_fields::zero::before_zero;
-use goblin_mach::Endian;
 
 /// A field of a load command.
-#[derive(Clone, Copy)]
+#[derive(Clone, Copy, Debug, Eq, Hash, PartialEq)]
+#[cfg_attr(not(feature = "internals"), non_exhaustive)]
 pub struct CommandField {
     /// Its name in the format.
     pub name: &'static str,
@@ -51,6 +52,13 @@ pub struct CommandFields<'a> {
     place: usize,
     le: Endian,
     rest: &'static [PlacedField],
+}
+
+impl<'a> core::fmt::Debug for CommandFields<'a> {
+    /// Prints the name of the type.
+    fn fmt(&self, f: &mut core::fmt::Formatter<'_>) -> core::fmt::Result {
+        f.debug_struct("CommandFields").finish_non_exhaustive()
+    }
 }
 
 // Returns the bytes from a place on, none past their end.

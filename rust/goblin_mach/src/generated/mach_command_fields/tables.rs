@@ -3,7 +3,7 @@
 #![forbid(unsafe_code)]
 
 use crate::generated::mach_command_fields::kind::FieldKind;
-use goblin_mach::load_command::{
+use crate::generated::mach_records::{
     LC_ATOM_INFO, LC_BUILD_VERSION, LC_CODE_SIGNATURE, LC_DATA_IN_CODE, LC_DYLD_CHAINED_FIXUPS,
     LC_DYLD_ENVIRONMENT, LC_DYLD_EXPORTS_TRIE, LC_DYLD_INFO, LC_DYLD_INFO_ONLY,
     LC_DYLIB_CODE_SIGN_DRS, LC_DYSYMTAB, LC_ENCRYPTION_INFO, LC_ENCRYPTION_INFO_64,

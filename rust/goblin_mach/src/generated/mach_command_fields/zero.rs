@@ -2,7 +2,7 @@
 //! Bytes up to a zero.
 #![forbid(unsafe_code)]
 
-use goblin_mach::internals::shim::memchr::memchr;
+use crate::shim::memchr::memchr;
 
 // Returns the number of bytes before the first zero.
 fn len_before_zero(bytes: &[u8]) -> usize {

@@ -3,7 +3,8 @@
 #![forbid(unsafe_code)]
 
 /// How a field is read.
-#[derive(Clone, Copy)]
+#[derive(Clone, Copy, Debug, Eq, Hash, PartialEq)]
+#[cfg_attr(not(feature = "internals"), non_exhaustive)]
 pub enum FieldKind {
     /// A number.
     Number,
