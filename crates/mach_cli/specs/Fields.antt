@@ -65,8 +65,8 @@ abbrev pub line_field : ValueView → (column : ℕ) → FieldView
 line_field value column = field_of [] value column
 
 -- the field of a name and a value that has no column
-abbrev pub named_field : List ℕ × ValueView → FieldView
-named_field f = object_field f.0 f.1
+abbrev pub named_value : List ℕ × ValueView → FieldView
+named_value f = object_field f.0 f.1
 
 -- the same field with at least so many characters in a line
 abbrev pub wide_field : (width : ℕ) → FieldView → FieldView

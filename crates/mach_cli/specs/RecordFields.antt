@@ -6,7 +6,7 @@ use Rattle.std.specs.Result.{result_ok}
 use Rattle.mach_base.specs.declared.context.Endian.{Endian}
 use Rattle.mach_base.specs.Text.{text_at}
 use Rattle.mach_records.specs.NumberNames.{platform_name, rights_text}
-use Rattle.mach_command_fields.specs.FieldRows.{CommandFieldView, command_bytes, fields_left, record_fields_at}
+use Rattle.mach_command_fields.specs.FieldRows.{CommandFieldView, command_slice, fields_left, record_fields_at}
 use Rattle.mach_command_fields.specs.declared.kind.FieldKind.{FieldKind}
 use Rattle.mach_command_fields.specs.declared.kind.FieldKind.TheVariants as kind
 use Rattle.mach_cli.specs.Fields.{ValueView, hex, named, number, optional_text, source_version, uuid, version}
@@ -16,7 +16,7 @@ use Rattle.mach_cli.specs.declared.record_fields.RecordFields.{RecordFields}
 -- the bytes that a field names, by their place and their length
 abbrev pub bytes_named : (bytes : List ℕ) → Option (ℕ × ℕ) → List ℕ
 bytes_named bytes None = []
-bytes_named bytes (Some place) = command_bytes bytes place.0 place.1
+bytes_named bytes (Some place) = command_slice bytes place.0 place.1
 
 -- a UUID, if there are as many bytes
 abbrev pub uuid_value : List ℕ → ValueView
@@ -62,7 +62,7 @@ field_shown bytes own f = (f.name, value_by f.kind bytes own f) ∷ offset_shown
 -- The fields of the record of the command of `size` bytes at a place, by the table of its number. The record is read whatever the size,
 -- and the command's bytes have its texts.
 abbrev pub record_shown : Endian → (bytes : List ℕ) → (place size cmd : ℕ) → List (List ℕ × ValueView)
-record_shown le bytes place size cmd = flat_map (field_shown bytes (command_bytes bytes place size)) (record_fields_at le bytes place size cmd)
+record_shown le bytes place size cmd = flat_map (field_shown bytes (command_slice bytes place size)) (record_fields_at le bytes place size cmd)
 
 -- ---- the fields left
 

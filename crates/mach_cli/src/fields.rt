@@ -280,7 +280,7 @@ fn print_in_object<O: Write>(value: Value<'_>, out: &mut O) -> io::Result<()>
 pub trait FieldsForm {
     ghost use Rattle.std.specs.Prelude.{◌≡◌, ◌++◌, ◌∷◌, List, ℕ, map, OnOk};
     ghost use Rattle.std.specs.Io.KnownBytes.{Appends};
-    ghost use Rattle.mach_cli.specs.Fields.{FieldView, field_view, named_field};
+    ghost use Rattle.mach_cli.specs.Fields.{FieldView, field_view, named_value};
     ghost use Rattle.mach_cli.specs.RecordFields.{shown_left};
 
     // The text of an item with these fields.
@@ -309,7 +309,7 @@ pub trait FieldsForm {
         out: &mut O,
     ) -> io::Result<()>
         ensures { OnOk result (Appends (O.contents out.old) (O.contents out.new)
-            (fields_text (field_view first.now ∷ (map field_view fields.now ++ map named_field (shown_left shown.entry))))) };
+            (fields_text (field_view first.now ∷ (map field_view fields.now ++ map named_value (shown_left shown.entry))))) };
 }
 
 /// A line: the fields in the order of their columns, a space between two.

@@ -8,14 +8,14 @@ ghost use Rattle.mach_base.specs.Text.{text_at};
 ghost use Rattle.mach_records.specs.NumberNames.{platform_name, rights_text};
 ghost use Rattle.mach_dyld.specs.Exports.{text_in};
 ghost use Rattle.mach_command_fields.specs.FieldRows.{field_seen};
-ghost use Rattle.mach_cli.specs.Fields.{comma_member, named, named_field, pair_field, value_view};
+ghost use Rattle.mach_cli.specs.Fields.{comma_member, named, named_value, pair_field, value_view};
 ghost use Rattle.mach_cli.specs.RecordFields.{bytes_named, low, offset_name, record_shown, shown_left, uuid_value, value_by};
 
 use crate::fields::{Field, Value, print_next_member, print_pair};
 use crate::json::text::{name_in_field, text_at};
 use goblin_mach::Endian;
 use goblin_mach::names::{platform_name, rights_name};
-use mach_command_fields::{CommandField, CommandFields, FieldKind, command_bytes};
+use mach_command_fields::{CommandField, CommandFields, FieldKind, command_slice};
 use std::io;
 use std::io::Write;
 
@@ -64,7 +64,7 @@ fn bytes_named<'a>(bytes: &'a [u8], field: &CommandField) -> &'a [u8]
     ensures { result.now ≡ bytes_named bytes.now (field_seen field.now).bytes }
 {
     match field.bytes {
-        Some((place, len)) => command_bytes(bytes, place, len),
+        Some((place, len)) => command_slice(bytes, place, len),
         None => &[],
     }
 }
@@ -101,7 +101,7 @@ impl<'a> RecordFields<'a> {
     {
         RecordFields {
             bytes,
-            own: command_bytes(bytes, place, size),
+            own: command_slice(bytes, place, size),
             offset: None,
             fields: CommandFields::of_record(bytes, le, place, size, cmd),
         }
@@ -143,7 +143,7 @@ impl<'a> RecordFields<'a> {
 
 /// Prints each field of a record after its name.
 pub fn print_record_pairs<O: Write>(mut shown: RecordFields<'_>, out: &mut O) -> io::Result<()>
-    ensures { OnOk result (Appends (O.contents out.old) (O.contents out.new) (flat_map pair_field (map named_field (shown_left shown.entry)))) }
+    ensures { OnOk result (Appends (O.contents out.old) (O.contents out.new) (flat_map pair_field (map named_value (shown_left shown.entry)))) }
 {
     'fields: while let Some((name, value)) = shown.next_field() {
         print_pair(&Field::of_object(name, value), out)?;
@@ -153,7 +153,7 @@ pub fn print_record_pairs<O: Write>(mut shown: RecordFields<'_>, out: &mut O) ->
 
 /// Prints each field of a record as a member after a comma.
 pub fn print_record_members<O: Write>(mut shown: RecordFields<'_>, out: &mut O) -> io::Result<()>
-    ensures { OnOk result (Appends (O.contents out.old) (O.contents out.new) (flat_map comma_member (map named_field (shown_left shown.entry)))) }
+    ensures { OnOk result (Appends (O.contents out.old) (O.contents out.new) (flat_map comma_member (map named_value (shown_left shown.entry)))) }
 {
     'fields: while let Some((name, value)) = shown.next_field() {
         print_next_member(&Field::of_object(name, value), out)?;

@@ -55,17 +55,17 @@ abbrev pub fields_in : Endian → (entry own : List ℕ) → (place : ℕ) → L
 fields_in le entry own place fields = map (field_in le entry own place) (fields_within (length entry) fields)
 
 -- the bytes of the command of `size` bytes at a place; no more bytes count than are there
-abbrev pub command_bytes : List ℕ → (place size : ℕ) → List ℕ
-command_bytes bytes place size = take size (drop place bytes)
+abbrev pub command_slice : List ℕ → (place size : ℕ) → List ℕ
+command_slice bytes place size = take size (drop place bytes)
 
 -- its fields, by its number: those that its bytes hold
 abbrev pub fields_at : Endian → List ℕ → (place size cmd : ℕ) → List CommandFieldView
 fields_at le bytes place size cmd =
-    fields_in le (command_bytes bytes place size) (command_bytes bytes place size) place (fields_of_command cmd)
+    fields_in le (command_slice bytes place size) (command_slice bytes place size) place (fields_of_command cmd)
 
 -- The same of its record as it is read, whatever its size: those that the bytes from its place on hold. Texts lie in the command.
 abbrev pub record_fields_at : Endian → List ℕ → (place size cmd : ℕ) → List CommandFieldView
-record_fields_at le bytes place size cmd = fields_in le (drop place bytes) (command_bytes bytes place size) place (fields_of_command cmd)
+record_fields_at le bytes place size cmd = fields_in le (drop place bytes) (command_slice bytes place size) place (fields_of_command cmd)
 
 -- what a caller sees of a field
 abbrev pub field_seen : CommandField → CommandFieldView

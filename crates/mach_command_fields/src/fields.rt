@@ -3,7 +3,7 @@
 ghost use Rattle.std.specs.Prelude.{◌≡◌, ◌+◌, ◌≤◌, drop, length};
 ghost use Rattle.std.specs.Iterator.{YieldsFirstBy};
 ghost use Rattle.mach_command_fields.specs.CommandTables.{field_place};
-ghost use Rattle.mach_command_fields.specs.FieldRows.{command_bytes, field_bytes_in, field_in, number_in_field, field_seen, fields_at, fields_left};
+ghost use Rattle.mach_command_fields.specs.FieldRows.{command_slice, field_bytes_in, field_in, number_in_field, field_seen, fields_at, fields_left};
 ghost use Rattle.mach_command_fields.specs.FieldRows.{padded_name, record_fields_at, text_bytes_in};
 
 use crate::kind::FieldKind;
@@ -59,8 +59,8 @@ fn rest_from(bytes: &[u8], place: usize) -> &[u8]
 }
 
 /// Returns the `size` bytes from a place on, or those that are there.
-pub fn command_bytes(bytes: &[u8], place: usize, size: usize) -> &[u8]
-    ensures { result.now ≡ command_bytes bytes.now place size }
+pub fn command_slice(bytes: &[u8], place: usize, size: usize) -> &[u8]
+    ensures { result.now ≡ command_slice bytes.now place size }
 {
     let rest = rest_from(bytes, place);
     &rest[..size.min(rest.len())]
@@ -85,7 +85,7 @@ impl<'a> CommandFields<'a> {
         ensures fields { fields_left result ≡ fields_at le bytes.now place size cmd }
         ensures most { length (fields_left result) ≤ 18 }
     {
-        let own = command_bytes(bytes, place, size);
+        let own = command_slice(bytes, place, size);
         CommandFields {
             entry: own,
             own,
@@ -102,7 +102,7 @@ impl<'a> CommandFields<'a> {
     {
         CommandFields {
             entry: rest_from(bytes, place),
-            own: command_bytes(bytes, place, size),
+            own: command_slice(bytes, place, size),
             place,
             le,
             rest: fields_of(cmd),

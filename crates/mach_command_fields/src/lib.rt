@@ -6,6 +6,6 @@ mod kind;
 mod tables;
 mod zero;
 
-pub use crate::fields::{CommandField, CommandFields, command_bytes};
+pub use crate::fields::{CommandField, CommandFields, command_slice};
 pub use crate::kind::FieldKind;
 pub use crate::zero::before_zero;

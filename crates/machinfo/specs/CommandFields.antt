@@ -3,13 +3,13 @@ use Rattle.std.specs.Prelude.{◌∷◌, ◌++◌, ℕ, List, [], codes, map, un
 use Rattle.mach_base.specs.declared.context.Endian.{Endian}
 use Rattle.mach_records.specs.CommandName.{command_name}
 use Rattle.mach_load.specs.Command.{Command, cmd_of, cmdsize_of}
-use Rattle.mach_command_fields.specs.FieldRows.{command_bytes}
-use Rattle.mach_cli.specs.Fields.{FieldView, alone_field, field_of, hex, named, named_field, number, optional_text, wide_field}
+use Rattle.mach_command_fields.specs.FieldRows.{command_slice}
+use Rattle.mach_cli.specs.Fields.{FieldView, alone_field, field_of, hex, named, named_value, number, optional_text, wide_field}
 use Rattle.mach_cli.specs.RecordFields.{record_shown}
 
 -- its bytes: as many as its cmdsize says, if there are so many
 abbrev pub bytes_of_command : (bytes : List ℕ) → Command → List ℕ
-bytes_of_command bytes c = command_bytes bytes c.offset (cmdsize_of c)
+bytes_of_command bytes c = command_slice bytes c.offset (cmdsize_of c)
 
 -- the offset of a command, its size and its name, if it has one, and in an object also its number in the format
 abbrev pub command_head : Command → List FieldView
@@ -24,4 +24,4 @@ command_head c =
 abbrev pub command_fields : Endian → (bytes : List ℕ) → (number : ℕ) → Command → List FieldView
 command_fields le bytes n c =
     wide_field 3 (field_of (codes "number") (number n) 1)
-    ∷ (command_head c ++ map named_field (record_shown le bytes c.offset (cmdsize_of c) (cmd_of c)))
+    ∷ (command_head c ++ map named_value (record_shown le bytes c.offset (cmdsize_of c) (cmd_of c)))

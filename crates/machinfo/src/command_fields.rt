@@ -11,7 +11,7 @@ ghost use Rattle.machinfo.specs.NumberedCommands.{numbered_command_fields, numbe
 use crate::commands::NumberedCommand;
 use goblin_mach::load_command::{LoadCommand, command_name};
 use mach_cli::{Field, FieldsForm, RecordFields, Value};
-use mach_command_fields::command_bytes;
+use mach_command_fields::command_slice;
 use std::io;
 use std::io::Write;
 
@@ -58,5 +58,5 @@ fn command_head(command: &LoadCommand) -> [Field<'static>; 4]
 pub fn bytes_of_command<'a>(bytes: &'a [u8], command: &LoadCommand) -> &'a [u8]
     ensures { result.now ≡ bytes_of_command bytes.now (command_of command.now) }
 {
-    command_bytes(bytes, command.offset, command.command.cmdsize())
+    command_slice(bytes, command.offset, command.command.cmdsize())
 }

@@ -70,10 +70,10 @@ fn rest_from(bytes: &[u8], place: usize) -> &[u8] {
 ///
 /// <details><summary>Proved</summary>
 ///
-/// - `result ≡ command_bytes bytes place size`
+/// - `result ≡ command_slice bytes place size`
 ///
 /// </details>
-pub fn command_bytes(bytes: &[u8], place: usize, size: usize) -> &[u8] {
+pub fn command_slice(bytes: &[u8], place: usize, size: usize) -> &[u8] {
     let rest = rest_from(bytes, place);
     &rest[..size.min(rest.len())]
 }
@@ -98,7 +98,7 @@ impl<'a> CommandFields<'a> {
     ///
     /// </details>
     pub fn of(bytes: &'a [u8], le: Endian, place: usize, size: usize, cmd: u32) -> Self {
-        let own = command_bytes(bytes, place, size);
+        let own = command_slice(bytes, place, size);
         CommandFields {
             entry: own,
             own,
@@ -119,7 +119,7 @@ impl<'a> CommandFields<'a> {
     pub fn of_record(bytes: &'a [u8], le: Endian, place: usize, size: usize, cmd: u32) -> Self {
         CommandFields {
             entry: rest_from(bytes, place),
-            own: command_bytes(bytes, place, size),
+            own: command_slice(bytes, place, size),
             place,
             le,
             rest: fields_of(cmd),

@@ -8,7 +8,7 @@ mod tables;
 mod zero;
 
 pub use crate::generated::mach_command_fields::fields::{
-    CommandField, CommandFields, command_bytes,
+    CommandField, CommandFields, command_slice,
 };
 pub use crate::generated::mach_command_fields::kind::FieldKind;
 pub use crate::generated::mach_command_fields::zero::before_zero;

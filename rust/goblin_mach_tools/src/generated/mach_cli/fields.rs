@@ -317,7 +317,7 @@ pub trait FieldsForm {
     ///
     /// <details><summary>Proved</summary>
     ///
-    /// - if `Ok`: `Appends (O.contents out.old) (O.contents out.new) (fields_text (field_view first ∷ (map field_view fields ++ map named_field (shown_left shown.entry))))`
+    /// - if `Ok`: `Appends (O.contents out.old) (O.contents out.new) (fields_text (field_view first ∷ (map field_view fields ++ map named_value (shown_left shown.entry))))`
     ///
     /// </details>
     fn write_record<O: Write>(

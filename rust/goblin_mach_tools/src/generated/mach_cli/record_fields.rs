@@ -7,7 +7,7 @@ use crate::generated::mach_cli::json::text::{name_in_field, text_at};
 use crate::shim::io;
 use crate::shim::io::Write;
 use goblin_mach::Endian;
-use goblin_mach::command_fields::{CommandField, CommandFields, FieldKind, command_bytes};
+use goblin_mach::command_fields::{CommandField, CommandFields, FieldKind, command_slice};
 use goblin_mach::names::{platform_name, rights_name};
 
 // Returns the low 32 bits of a number, which are all of one of four bytes.
@@ -51,7 +51,7 @@ fn offset_name(name: &'static str) -> &'static str {
 // Returns the bytes that a field names, none if it names no bytes.
 fn bytes_named<'a>(bytes: &'a [u8], field: &CommandField) -> &'a [u8] {
     match field.bytes {
-        Some((place, len)) => command_bytes(bytes, place, len),
+        Some((place, len)) => command_slice(bytes, place, len),
         None => &[],
     }
 }
@@ -90,7 +90,7 @@ impl<'a> RecordFields<'a> {
     pub fn of(bytes: &'a [u8], le: Endian, place: usize, size: usize, cmd: u32) -> Self {
         RecordFields {
             bytes,
-            own: command_bytes(bytes, place, size),
+            own: command_slice(bytes, place, size),
             offset: None,
             fields: CommandFields::of_record(bytes, le, place, size, cmd),
         }
@@ -130,7 +130,7 @@ impl<'a> RecordFields<'a> {
 ///
 /// <details><summary>Proved</summary>
 ///
-/// - if `Ok`: `Appends (O.contents out.old) (O.contents out.new) (flat_map pair_field (map named_field (shown_left shown.entry)))`
+/// - if `Ok`: `Appends (O.contents out.old) (O.contents out.new) (flat_map pair_field (map named_value (shown_left shown.entry)))`
 ///
 /// </details>
 pub fn print_record_pairs<O: Write>(mut shown: RecordFields<'_>, out: &mut O) -> io::Result<()> {
@@ -144,7 +144,7 @@ pub fn print_record_pairs<O: Write>(mut shown: RecordFields<'_>, out: &mut O) ->
 ///
 /// <details><summary>Proved</summary>
 ///
-/// - if `Ok`: `Appends (O.contents out.old) (O.contents out.new) (flat_map comma_member (map named_field (shown_left shown.entry)))`
+/// - if `Ok`: `Appends (O.contents out.old) (O.contents out.new) (flat_map comma_member (map named_value (shown_left shown.entry)))`
 ///
 /// </details>
 pub fn print_record_members<O: Write>(mut shown: RecordFields<'_>, out: &mut O) -> io::Result<()> {

@@ -6,7 +6,7 @@ use crate::generated::mach_cli::{Field, FieldsForm, RecordFields, Value};
 use crate::generated::machinfo::commands::NumberedCommand;
 use crate::shim::io;
 use crate::shim::io::Write;
-use goblin_mach::command_fields::command_bytes;
+use goblin_mach::command_fields::command_slice;
 use goblin_mach::load_command::{LoadCommand, command_name};
 
 /// Writes the fields of a command in a form: its number, its offset, its size and its name, and then those of its record.
@@ -55,5 +55,5 @@ fn command_head(command: &LoadCommand) -> [Field<'static>; 4] {
 ///
 /// </details>
 pub fn bytes_of_command<'a>(bytes: &'a [u8], command: &LoadCommand) -> &'a [u8] {
-    command_bytes(bytes, command.offset, command.command.cmdsize())
+    command_slice(bytes, command.offset, command.command.cmdsize())
 }
