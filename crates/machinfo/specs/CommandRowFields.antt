@@ -2,9 +2,9 @@
 use Rattle.std.specs.Prelude.{◌∷◌, ◌++◌, ◌%◌, ℕ, List, [], codes, Option, Some, None}
 use Rattle.mach_base.specs.declared.context.Container.{Container}
 use Rattle.mach_base.specs.declared.context.Container.TheVariants.{Little, Big}
-use Rattle.mach_base.specs.Record.{Value, number_among}
+use Rattle.mach_base.specs.Record.{Value, bytes_among, number_among}
 use Rattle.mach_cli.specs.Fields.{FieldView, alone_field, field_of, hex, line_field, named, number, object_field, optional_text, text, wide_field}
-use Rattle.machinfo.specs.CommandFields.{CommandField, as_name, fields_by, in_decimal, in_hex, shown_field}
+use Rattle.mach_cli.specs.JsonText.{name_in_field}
 use Rattle.machinfo.specs.CommandRows.{CommandRowView, CommandSectionView, command_itself, register_below, section_below}
 use Rattle.machinfo.specs.NumberedCommands.{numbered_command_fields}
 use Rattle.machinfo.specs.PartFields.{section_type_name}
@@ -12,17 +12,25 @@ use Rattle.machinfo.specs.ThreadRegisters.{RegisterView}
 
 -- ---- sections
 
--- the fields of a section (struct section), and the one more of a wide one (struct section_64)
-abbrev pub narrow_section_shown : List CommandField
-narrow_section_shown =
-    shown_field (codes "sectname") 0 as_name ∷ shown_field (codes "segname") 1 as_name ∷ shown_field (codes "addr") 2 in_hex
-    ∷ shown_field (codes "size") 3 in_hex ∷ shown_field (codes "offset") 4 in_hex ∷ shown_field (codes "align") 5 in_decimal
-    ∷ shown_field (codes "reloff") 6 in_hex ∷ shown_field (codes "nreloc") 7 in_decimal ∷ shown_field (codes "flags") 8 in_hex
-    ∷ shown_field (codes "reserved1") 9 in_decimal ∷ shown_field (codes "reserved2") 10 in_decimal ∷ []
+-- the fields of a section (struct section), and the one more of a wide one (struct section_64), by the values of its record
+abbrev pub narrow_section_shown : List Value → List FieldView
+narrow_section_shown v =
+    object_field (codes "sectname") (optional_text (name_in_field (bytes_among v 0)))
+    ∷ object_field (codes "segname") (optional_text (name_in_field (bytes_among v 1)))
+    ∷ object_field (codes "addr") (hex (number_among v 2))
+    ∷ object_field (codes "size") (hex (number_among v 3))
+    ∷ object_field (codes "offset") (hex (number_among v 4))
+    ∷ object_field (codes "align") (number (number_among v 5))
+    ∷ object_field (codes "reloff") (hex (number_among v 6))
+    ∷ object_field (codes "nreloc") (number (number_among v 7))
+    ∷ object_field (codes "flags") (hex (number_among v 8))
+    ∷ object_field (codes "reserved1") (number (number_among v 9))
+    ∷ object_field (codes "reserved2") (number (number_among v 10))
+    ∷ []
 
-abbrev pub section_shown : Container → List CommandField
-section_shown Little = narrow_section_shown
-section_shown Big = narrow_section_shown ++ shown_field (codes "reserved3") 11 in_decimal ∷ []
+abbrev pub section_shown : Container → List Value → List FieldView
+section_shown Little v = narrow_section_shown v
+section_shown Big v = narrow_section_shown v ++ object_field (codes "reserved3") (number (number_among v 11)) ∷ []
 
 -- the type in the flags (SECTION_TYPE), in words
 abbrev pub section_kind : (flags : ℕ) → FieldView
@@ -39,7 +47,7 @@ section_head command k =
 
 -- the fields of its record, and the type
 abbrev pub section_record_shown : Container → List Value → List FieldView
-section_record_shown width values = fields_by (section_shown width) [] values ++ section_kind (number_among values 8) ∷ []
+section_record_shown width values = section_shown width values ++ section_kind (number_among values 8) ∷ []
 
 abbrev pub command_section_fields : CommandSectionView → List FieldView
 command_section_fields s = section_head s.command s.number ++ section_record_shown s.width s.values
