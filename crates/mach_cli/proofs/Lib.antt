@@ -21,4 +21,5 @@ pub mod FieldLines
 mod HexWords
 mod ShortNames
 mod Padding
+mod Columns
 mod Painting
