@@ -22,4 +22,5 @@ pub mod RecordWritten
 mod HexWords
 mod ShortNames
 mod Padding
+mod Columns
 mod Painting

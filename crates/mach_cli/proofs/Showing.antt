@@ -2,9 +2,10 @@
 use Rattle.std.proofs.Common.{◌≡◌, ◌++◌, ◌∷◌, ◌∙◌, [], ℕ, ◌≤◌, List, Option, Result, Ok, refl, sym, ap, subst, length, drop, arith}
 use Rattle.std.proofs.lemmas.Bool.{false_from_ne_true, le-leb, lt-leb}
 use Rattle.std.proofs.lemmas.Bool.Decides.{Decides-eqb}
-use Rattle.std.proofs.lemmas.List.{append-nil, append_assoc}
+use Rattle.std.proofs.lemmas.List.{append_assoc}
+use Rattle.std.proofs.lemmas.Result.{IfOk-weaker}
 use Rattle.std.proofs.lemmas.Slice.Eq.{starts_is}
-use Rattle.std.specs.Prelude.{alloc_error, Bool, true, false, ◌&&◌, ◌||◌, codes, nat_eq, nat_le}
+use Rattle.std.specs.Prelude.{alloc_error, Bool, true, false, IfOk, None, ◌&&◌, ◌||◌, codes, nat_eq, nat_le}
 use Rattle.std.specs.List.{starts_with}
 use Rattle.std.specs.Io.KnownBytes.{Appends}
 use Rattle.mach_base.proofs.Binds.{same_ok}
@@ -29,26 +30,17 @@ use Rattle.goblin_mach.specs.declared.macho.MachO.{MachO}
 use Rattle.mach_cli.specs.Cpus.{is_of_cpu, IsTaken}
 use Rattle.mach_cli.specs.declared.cpu.Cpu.{Cpu}
 use Rattle.mach_cli.specs.Labels.{LabelView, label_of}
-use Rattle.mach_cli.specs.Refusals.{item_words, label_complaint, memory_words}
-use Rattle.mach_cli.specs.Shown.{ImageLines, IsMemberOrFile, FaultOfItem, Shown, ShowsItem, ShowsItems, ShowsPlaced}
-use Rattle.mach_cli.specs.Shown.{both, first_item, nothing, no_image, no_items, separated}
-use Rattle.mach_cli.specs.Sinks.{SinkTexts}
+use Rattle.mach_cli.specs.Refusals.{item_words, memory_words}
+use Rattle.mach_cli.specs.Shown.{IsMemberOrFile, FaultOfItem, Prints, Shown, ShowsItem, ShowsItems, Way}
+use Rattle.mach_cli.specs.Shown.{after, both, first_item, item_front, nothing, no_image, no_items, not_shown}
 use Rattle.mach_cli.specs.TableEntries.{outside_at}
+use Rattle.mach_cli.specs.declared.image_view.Outcome.{Outcome}
 
 -- ---- texts that were written
-
--- an empty text after another one
-pub Appends-nothing : (first second third : Option (List ℕ)) (xs : List ℕ) → Appends first second xs → Appends second third [] → Appends first third xs
-Appends-nothing first second third xs one two =
-    subst (λ (text : List ℕ). Appends first third text) (append-nil xs) (Appends-both first second third xs [] one two)
 
 -- three parts
 pub three : (a b c d : Option (List ℕ)) (xs ys zs : List ℕ) → Appends a b xs → Appends b c ys → Appends c d zs → Appends a d (xs ++ (ys ++ zs))
 three a b c d xs ys zs first second third = Appends-both a b d xs (ys ++ zs) first (Appends-both b c d ys zs second third)
-
--- the same text in other words
-pub Appends-as : (first second : Option (List ℕ)) (xs ys : List ℕ) → xs ≡ ys → Appends first second xs → Appends first second ys
-Appends-as first second xs ys is written = subst (λ (text : List ℕ). Appends first second text) is written
 
 -- ---- what a file is
 
@@ -122,22 +114,10 @@ memory_words_of (archive_member m) = refl
 memory_words_of no_member = refl
 
 -- an item that isn't shown, by the words of its refusal
-pub refused_item : (k : SinkTexts) (names name : List ℕ) (lines : ImageLines) (left : ℕ) (label : LabelView) (content : Result ContentView Fault) (e : Error)
-    (words : List ℕ) → ErrorMeets (FaultOfItem content) e → words ≡ item_words content e
-    → ShowsItem k names name lines left label content (record {
-      text = k.image_front name label ++ k.refused_image label words;
-      message = label_complaint names label words;
-      whole = false;
-      left = left;
-    })
-refused_item k names name lines left label content e words occurs is =
-    let refused : List ℕ → Shown = λ ws. record {
-      text = k.image_front name label ++ k.refused_image label ws;
-      message = label_complaint names label ws;
-      whole = false;
-      left = left;
-    } in
-    subst (λ (ws : List ℕ). ShowsItem k names name lines left label content (refused ws)) (sym is) (no_image content e occurs)
+pub refused_item : (w : Way) (left : ℕ) (label : LabelView) (content : Result ContentView Fault) (e : Error) (words : List ℕ)
+    → ErrorMeets (FaultOfItem content) e → words ≡ item_words content e → ShowsItem w left label None content (not_shown w label words left)
+refused_item w left label content e words occurs is =
+    subst (λ (ws : List ℕ). ShowsItem w left label None content (not_shown w label ws left)) (sym is) (no_image content e occurs)
 
 -- a fault of opening is one of the item
 pub item_fault : (content : ContentView) → IsMemberOrFile content → (f : Fault) → ImageFault (content_bytes content) 0 f → FaultOfItem (Ok content) f
@@ -162,25 +142,39 @@ both_three a b c =
     ∙ ap (λ (whole : Bool). shown_with ((a.text ++ b.text) ++ c.text) ((a.message ++ b.message) ++ c.message) whole c.left)
     (and_three a.whole b.whole c.whole)
 
-module _ (k : SinkTexts) (names name : List ℕ) (lines : ImageLines) (bytes : List ℕ) (limit : ℕ) (all : List ItemView) where
+module _ (w : Way) (bytes : List ℕ) (limit : ℕ) (all : List ItemView) where
   -- What is shown of those left completes what is shown of all.
   abbrev pub Follows : (is_first : Bool) → (left : ℕ) → List ItemView → (before : Shown) → Type 0
   Follows is_first left rest before =
-      (later : Shown) → ShowsItems k names name lines bytes is_first left rest later →
-      ShowsItems k names name lines bytes true limit all (both before later)
+      (later : Shown) → ShowsItems w bytes is_first left rest later → ShowsItems w bytes true limit all (both before later)
 
   pub item_shown : (is_first : Bool) (left : ℕ) (here : List ItemView) (x : ItemView) (rest : List ItemView) (before shown : Shown) → here ≡ x ∷ rest
       → Follows is_first left here before
-      → ShowsPlaced k names name lines left (label_of x.place x.content) (outside_at arch_form_32 bytes x.place.entry) x.content shown
-      → Follows false shown.left rest (both before (separated k is_first shown))
+      → ShowsItem w left (label_of x.place x.content) (outside_at arch_form_32 bytes x.place.entry) x.content shown
+      → Follows false shown.left rest (both before (after (item_front w.texts w.file is_first (label_of x.place x.content)) shown))
   item_shown is_first left here x rest before shown is follows one later more =
-      let last = separated k is_first shown in
-      subst (ShowsItems k names name lines bytes true limit all) (both_three before last later)
-      (follows (both last later) (subst (λ (xs : List ItemView). ShowsItems k names name lines bytes is_first left xs (both last later)) (sym is)
+      let last = after (item_front w.texts w.file is_first (label_of x.place x.content)) shown in
+      subst (ShowsItems w bytes true limit all) (both_three before last later)
+      (follows (both last later) (subst (λ (xs : List ItemView). ShowsItems w bytes is_first left xs (both last later)) (sym is)
       (first_item is_first left x rest shown later one more)))
 
   pub items_shown : (is_first : Bool) (left : ℕ) (here : List ItemView) (before : Shown) → here ≡ [] → Follows is_first left here before
-      → ShowsItems k names name lines bytes true limit all (both before (nothing left))
+      → ShowsItems w bytes true limit all (both before (nothing left))
   items_shown is_first left here before is follows =
-      follows (nothing left) (subst (λ (xs : List ItemView). ShowsItems k names name lines bytes is_first left xs (nothing left)) (sym is)
+      follows (nothing left) (subst (λ (xs : List ItemView). ShowsItems w bytes is_first left xs (nothing left)) (sym is)
       (no_items is_first left))
+
+-- ---- what is printed
+
+module _ {E : Type 0} (r : Result Outcome E) (out_old out_new err_old err_new : Option (List ℕ)) where
+  -- What is shown in one way is shown in another.
+  pub prints_as : (P Q : Shown → Type 0) → ((shown : Shown) → P shown → Q shown) → IfOk r (λ outcome. Prints P outcome out_old out_new err_old err_new)
+      → IfOk r (λ outcome. Prints Q outcome out_old out_new err_old err_new)
+  prints_as P Q weaker known =
+      IfOk-weaker r _ _
+      (λ outcome p. record { shown = p.shown; shows = weaker p.shown p.shows; whole = p.whole; left = p.left; text = p.text; message = p.message })
+      known
+
+  pub prints_one : (Q : Shown → Type 0) (one : Shown) → Q one → IfOk r (λ outcome. Prints (λ shown. shown ≡ one) outcome out_old out_new err_old err_new)
+      → IfOk r (λ outcome. Prints Q outcome out_old out_new err_old err_new)
+  prints_one Q one holds known = prints_as (λ shown. shown ≡ one) Q (λ shown is. subst Q (sym is) holds) known

@@ -1,6 +1,6 @@
 -- How a text is written, and where its characters begin.
 use Rattle.std.proofs.Common.{◌≡◌, ◌∙◌, ◌⊎◌, ℕ, zero, suc, ◌+◌, ◌-◌, ◌*◌, ◌/◌, ◌%◌, ◌<◌, ◌≤◌, ◌==◌, ◌&&◌, ◌||◌, nat_lt, Bool, cond, not, true, false, List}
-use Rattle.std.proofs.Common.{[], ◌∷◌, ◌++◌, length, get_or, take, drop, inl, inr, ⊎_elim, refl, sym, ap}
+use Rattle.std.proofs.Common.{All, [], ◌∷◌, ◌++◌, length, get_or, take, drop, inl, inr, ⊎_elim, refl, sym, ap}
 use Rattle.std.proofs.Common.{length-append, append-nil, append_assoc, arith, drop-drop, get_or-drop, length-drop, take_all}
 use Rattle.std.proofs.lemmas.Bool.{and_parts, eq-eqb, lt-ltb, ne_eqb, not-true}
 use Rattle.std.proofs.lemmas.Bool.Decides.{leb_tells, nat_tests}
@@ -12,7 +12,10 @@ use Rattle.std.specs.Char.{len_utf8}
 use Rattle.std.specs.Int.{is_in_range}
 use Rattle.std.specs.List.{flat_map, list_all}
 use Rattle.std.specs.Str.Lossy.{after_first_chunk, utf8_invalid_len, utf8_valid_len}
-use Rattle.std.specs.Str.{IsCharBoundary, IsUtf8}
+use Rattle.std.proofs.lemmas.List.Elements.{All-cons, All-nil}
+use Rattle.std.proofs.lemmas.Str.{chars-IsAscii}
+use Rattle.std.proofs.lemmas.Str.Ascii.{IsAscii-from_all}
+use Rattle.std.specs.Str.{chars, IsCharBoundary, IsUtf8}
 use Rattle.mach_cli.specs.Escapes.{byte_in, escape_len, escape_of, escape_text, escaped_bytes, escaped_bytes_within, escaped_text, hidden_len}
 use Rattle.mach_cli.specs.Escapes.{char_of_four, char_of_three, char_of_two, hides_four, hides_three, hides_two, is_hidden, is_visible, is_quoted, is_tail}
 use Rattle.mach_cli.specs.Escapes.{written, written_past}
@@ -140,6 +143,19 @@ written_plain style [] all = refl
 written_plain style (b ∷ rest) all =
     let parts = and_parts (is_visible style b) (list_all (is_visible style) rest) all in
     rw (plain_kept style b rest parts.0) (ap (λ t. b ∷ t) (written_plain style rest parts.1))
+
+ascii_byte : (style : Style) (b : ℕ) → is_visible style b ≡ true → b < 128
+ascii_byte style b plain = let low = (and_parts (is_in_range 0x20 0x7e b) (not (is_quoted style b)) plain).0 in grind (arith, nat_tests)
+
+ascii_bytes : (style : Style) (text : List ℕ) → list_all (is_visible style) text ≡ true → All (λ b. b < 128) text
+ascii_bytes style [] all = All-nil (λ b. b < 128)
+ascii_bytes style (b ∷ rest) all =
+    let parts = and_parts (is_visible style b) (list_all (is_visible style) rest) all in
+    All-cons (λ b. b < 128) b rest (ascii_byte style b parts.0) (ascii_bytes style rest parts.1)
+
+-- such a text has as many characters as bytes
+pub visible_chars : (style : Style) (text : List ℕ) → list_all (is_visible style) text ≡ true → length (chars text) ≡ length text
+visible_chars style text all = ap length (chars-IsAscii text (IsAscii-from_all text (ascii_bytes style text all)))
 
 -- ---- where characters begin
 

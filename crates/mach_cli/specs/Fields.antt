@@ -1,6 +1,6 @@
 -- What is shown of an item of a list, field by field: as a line of text, or as an object of JSON (RFC 8259, 4).
-use Rattle.std.specs.Prelude.{◌==◌, ◌&&◌, ◌++◌, ◌∷◌, ◌-◌, ◌^◌, ℕ, ℤ, List, [], codes, length, Bool, true, false, not, Option, Some, None}
-use Rattle.std.specs.Prelude.{option_map, if◌then◌else◌}
+use Rattle.std.specs.Prelude.{◌≡◌, ◌≤◌, ◌<◌, ◌==◌, ◌&&◌, ◌++◌, ◌∷◌, ◌-◌, ◌^◌, ℕ, ℤ, List, [], codes, length, Bool, true, false, not, Option, Some, None}
+use Rattle.std.specs.Prelude.{get_or, option_map, if◌then◌else◌}
 use Rattle.std.specs.Fmt.{decimal, digits, format_spec, padded_integral, signed_decimal, styled_decimal, styled_text}
 use Rattle.std.specs.List.{flat_map}
 use Rattle.std.specs.Str.{chars}
@@ -78,6 +78,14 @@ whether name is_so = object_field name (flag is_so [] [])
 
 abbrev pub field_view : Field → FieldView
 field_view f = record { name = f.name.now; value = value_view f.value; column = f.column; width = f.width }
+
+abbrev pub column_of : Field → ℕ
+column_of f = f.column
+
+-- Of fields with these columns, each that has a column of a line is at its start or after it, and before its end.
+pub record AreSpans (columns starts ends : List ℕ) : Type 0 where
+  pub lies : (column index : ℕ) → column < 10 → index < length columns → get_or columns index 0 ≡ column
+      → (get_or starts column 0 ≤ index) × (index < get_or ends column 0)
 
 -- ---- values in a line
 

@@ -9,6 +9,6 @@ use Rattle.mach_cli.specs.declared.document.Subject.{Subject}
 use Rattle.mach_cli.specs.declared.document.Subject.TheVariants.{Image, Fat}
 
 -- it is what the bytes open as
-abbrev pub IsSubject : {A : Type 0} → List ℕ → Subject A → Type 0
+abbrev pub IsSubject : List ℕ → Subject → Type 0
 IsSubject bytes (Image m) = IsImage bytes 0 m
 IsSubject bytes (Fat images records) = (file : FatFile) × IsFatTable bytes file records.items × (input_items_left images ≡ items_in bytes)

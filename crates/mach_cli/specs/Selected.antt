@@ -4,9 +4,11 @@ use Rattle.std.specs.List.{filter, list_any}
 use Rattle.goblin_mach.specs.Items.{ItemView}
 use Rattle.goblin_mach.specs.declared.item.EntryCpu.{EntryCpu}
 use Rattle.goblin_mach.specs.declared.item.ItemPlace.{ItemPlace}
+use Rattle.mach_cli.specs.Bounds.{most_images}
 use Rattle.mach_cli.specs.Cpus.{is_of_cpu}
 use Rattle.mach_cli.specs.PartsOf.{parts_left}
 use Rattle.mach_cli.specs.declared.cpu.Cpu.{Cpu}
+use Rattle.mach_cli.specs.declared.omitted.Omitted.{Omitted}
 use Rattle.mach_cli.specs.declared.parts.selection.SelectedParts.{SelectedParts}
 
 -- by the cpu of its entry; without one its image decides
@@ -27,6 +29,10 @@ parts_within limit cpu xs = take limit (selected_parts cpu xs)
 
 abbrev pub are_more : (limit : ℕ) → Cpu → List ItemView → Bool
 are_more limit cpu xs = nat_lt limit (length (selected_parts cpu xs))
+
+-- what is omitted of a file with these parts, of which a limit of lines allows as many, and with so many entries that are left out
+abbrev pub omitted_of : (limit : ℕ) → Cpu → List ItemView → (left_out : ℕ) → Omitted
+omitted_of limit cpu xs left_out = record { limit = limit; is_cut = are_more (most_images limit) cpu xs; left_out = left_out }
 
 -- whether there are parts, and none of them is selected
 abbrev pub are_missed : Cpu → List ItemView → Bool

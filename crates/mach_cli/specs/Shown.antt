@@ -17,12 +17,15 @@ use Rattle.mach_cli.specs.Cpus.{misses, IsTaken, no_entry_words, other_words}
 use Rattle.mach_cli.specs.declared.cpu.Cpu.{Cpu}
 use Rattle.mach_cli.specs.Foreigners.{refused_words}
 use Rattle.mach_cli.specs.Labels.{LabelView, label_of, unlabelled}
+use Rattle.mach_cli.specs.Names.{names_text}
 use Rattle.mach_cli.specs.Refusals.{complaint, item_words, label_complaint, limit_words}
 use Rattle.mach_cli.specs.Selected.{are_more, parts_within}
 use Rattle.mach_cli.specs.PartsOf.{items_before}
 use Rattle.mach_cli.specs.Sinks.{SinkTexts}
 use Rattle.mach_cli.specs.TableEntries.{archs_left_out, archs_shown, left_out_words, outside_at, outside_words}
+use Rattle.mach_cli.specs.declared.document.Document.{Document}
 use Rattle.mach_cli.specs.declared.entries.OutOfFile.{OutOfFile}
+use Rattle.mach_cli.specs.declared.image_view.Outcome.{Outcome}
 
 -- What a program prints of an image, with no more than `left` lines or rows: a relation of that number, the bytes at whose
 -- start the image opens, the text, whether that is whole, and how many more lines may be printed after it.
@@ -54,8 +57,26 @@ both first second = record {
   left = second.left;
 }
 
--- This was written on the two outputs.
-pub record Writes (shown : Shown) (out_old out_new err_old err_new : Option (List ℕ)) : Type 0 where
+-- How a file is shown: by the texts of a sink, with the names of the program and of the file, under the file's name, and with what a program
+-- prints of an image.
+pub record Way : Type 1 where
+  pub texts : SinkTexts
+  pub names : List ℕ
+  pub file : List ℕ
+  pub lines : ImageLines
+
+abbrev pub way_of : SinkTexts → (program file : List ℕ) → ImageLines → Way
+way_of texts program file lines = record { texts = texts; names = names_text program file; file = file; lines = lines }
+
+abbrev pub way_in : {V K : Type 0} → SinkTexts → (V → (file : List ℕ) → (limit : ℕ) → ImageLines) → Document V K → Way
+way_in texts lines d = way_of texts d.names.program.now d.names.file.now (lines d.view.now d.names.file.now d.limit)
+
+-- Something is shown, with this outcome, and written on the two outputs.
+pub record Prints (Shows : Shown → Type 0) (outcome : Outcome) (out_old out_new err_old err_new : Option (List ℕ)) : Type 0 where
+  pub shown : Shown
+  pub shows : Shows shown
+  pub whole : shown.whole ≡ outcome.whole
+  pub left : shown.left ≡ outcome.left
   pub text : Appends out_old out_new shown.text
   pub message : Appends err_old err_new shown.message
 
@@ -78,54 +99,41 @@ IsMemberOrFile (whole_file bytes) = Unit {0}
 IsMemberOrFile (archive_member m) = Unit {0}
 IsMemberOrFile no_member = ⊥
 
--- What is shown of an item of a file of this name, under its label: what the program prints of the image, or why it isn't shown, a
--- fault that it has or that memory ran out; or that it is an archive without members.
-pub data ShowsItem (k : SinkTexts) (names name : List ℕ) (lines : ImageLines) (left : ℕ) (label : LabelView) : Result ContentView Fault → Shown → Type 0 where
-  an_image : (content : ContentView) (text : List ℕ) (whole : Bool) (rest : ℕ) → lines left (content_bytes content) text whole rest
-      → ShowsItem k names name lines left label (Ok content)
-      (record { text = k.image_front name label ++ (text ++ k.image_end); message = []; whole = whole; left = rest })
-  no_image : (content : Result ContentView Fault) (e : Error) → ErrorMeets (FaultOfItem content) e → ShowsItem k names name lines left label content (record {
-    text = k.image_front name label ++ k.refused_image label (item_words content e);
-    message = label_complaint names label (item_words content e);
-    whole = false;
-    left = left;
-  })
-  an_archive : ShowsItem k names name lines left label (Ok no_member)
-      (record { text = k.image_front name label ++ k.archive; message = []; whole = true; left = left })
+-- what isn't shown for a reason
+abbrev pub not_shown : Way → LabelView → (words : List ℕ) → (left : ℕ) → Shown
+not_shown w label words left =
+    record { text = w.texts.refused_image label words; message = label_complaint w.names label words; whole = false; left = left }
 
--- The same of an entry that may be out of the file: then only that is reported.
-abbrev pub ShowsPlaced : (k : SinkTexts) (names name : List ℕ) (lines : ImageLines) (left : ℕ) (label : LabelView) → Option OutOfFile
-    → Result ContentView Fault → Shown → Type 0
-ShowsPlaced k names name lines left label None content shown = ShowsItem k names name lines left label content shown
-ShowsPlaced k names name lines left label (Some outside) content shown = shown ≡ record {
-  text = k.image_front name label ++ k.refused_image label (outside_words outside);
-  message = label_complaint names label (outside_words outside);
-  whole = false;
-  left = left;
-}
+-- What is shown of an item that is begun under its label, and may be an entry that is out of the file: what the program prints of the image;
+-- that it is an archive without members; or why it isn't shown, a fault that it has, that memory ran out, or that it is out of the file.
+pub data ShowsItem (w : Way) (left : ℕ) (label : LabelView) : Option OutOfFile → Result ContentView Fault → Shown → Type 0 where
+  an_image : (content : ContentView) (text : List ℕ) (whole : Bool) (rest : ℕ) → w.lines left (content_bytes content) text whole rest
+      → ShowsItem w left label None (Ok content) (record { text = text ++ w.texts.image_end; message = []; whole = whole; left = rest })
+  no_image : (content : Result ContentView Fault) (e : Error) → ErrorMeets (FaultOfItem content) e
+      → ShowsItem w left label None content (not_shown w label (item_words content e) left)
+  an_archive : ShowsItem w left label None (Ok no_member) (record { text = w.texts.archive; message = []; whole = true; left = left })
+  no_part : (outside : OutOfFile) (content : Result ContentView Fault)
+      → ShowsItem w left label (Some outside) content (not_shown w label (outside_words outside) left)
 
--- a separator before what isn't the first
-abbrev pub separated : SinkTexts → (is_first : Bool) → Shown → Shown
-separated k is_first shown = record {
-  text = (if is_first then [] else k.separator) ++ shown.text;
-  message = shown.message;
-  whole = shown.whole;
-  left = shown.left;
-}
+-- what is before an item: a separator, if it isn't the first, and what begins an image
+abbrev pub item_front : SinkTexts → (file : List ℕ) → (is_first : Bool) → LabelView → List ℕ
+item_front k file is_first label = (if is_first then [] else k.separator) ++ k.image_front file label
+
+abbrev pub after : (front : List ℕ) → Shown → Shown
+after front shown = record { text = front ++ shown.text; message = shown.message; whole = shown.whole; left = shown.left }
 
 -- What is shown of these items of a file, in order. An item has no more lines than those before it left.
-pub data ShowsItems (k : SinkTexts) (names name : List ℕ) (lines : ImageLines) (bytes : List ℕ)
-    : (is_first : Bool) → (left : ℕ) → List ItemView → Shown → Type 0 where
-  no_items : (is_first : Bool) (left : ℕ) → ShowsItems k names name lines bytes is_first left [] (nothing left)
+pub data ShowsItems (w : Way) (bytes : List ℕ) : (is_first : Bool) → (left : ℕ) → List ItemView → Shown → Type 0 where
+  no_items : (is_first : Bool) (left : ℕ) → ShowsItems w bytes is_first left [] (nothing left)
   first_item : (is_first : Bool) (left : ℕ) (x : ItemView) (xs : List ItemView) (shown later : Shown)
-      → ShowsPlaced k names name lines left (label_of x.place x.content) (outside_at arch_form_32 bytes x.place.entry) x.content shown
-      → ShowsItems k names name lines bytes false shown.left xs later
-      → ShowsItems k names name lines bytes is_first left (x ∷ xs) (both (separated k is_first shown) later)
+      → ShowsItem w left (label_of x.place x.content) (outside_at arch_form_32 bytes x.place.entry) x.content shown
+      → ShowsItems w bytes false shown.left xs later
+      → ShowsItems w bytes is_first left (x ∷ xs) (both (after (item_front w.texts w.file is_first (label_of x.place x.content)) shown) later)
 
--- a file of a kind with what is shown of its images
-abbrev pub whole_of : SinkTexts → (kind name : List ℕ) → Shown → Shown
-whole_of k kind name shown = record {
-  text = k.file_front 0 ++ (shown.text ++ k.file_end false kind name);
+-- a file with what is shown of its one image
+abbrev pub whole_of : Way → Shown → Shown
+whole_of w shown = record {
+  text = w.texts.file_front 0 ++ (item_front w.texts w.file true unlabelled ++ (shown.text ++ w.texts.file_end false (codes "image") w.file));
   message = shown.message;
   whole = shown.whole;
   left = shown.left;
@@ -139,11 +147,14 @@ left_out_line names left_out = if left_out == 0 then [] else complaint names (le
 abbrev pub limit_line : (names : List ℕ) → (limit : ℕ) → (is_cut : Bool) → List ℕ
 limit_line names limit is_cut = if is_cut then complaint names (limit_words (most_images limit)) else []
 
+abbrev pub omitted_lines : (names : List ℕ) → (limit : ℕ) → (is_cut : Bool) → (left_out : ℕ) → List ℕ
+omitted_lines names limit is_cut left_out = limit_line names limit is_cut ++ left_out_line names left_out
+
 -- a fat file with what is shown of its items, whether the limit leaves out more, and how many of its entries are left out
-abbrev pub fat_of : SinkTexts → (names name : List ℕ) → (limit : ℕ) → (is_cut : Bool) → (left_out : ℕ) → Shown → Shown
-fat_of k names name limit is_cut left_out shown = record {
-  text = k.file_front left_out ++ (shown.text ++ k.file_end is_cut (codes "fat file") name);
-  message = shown.message ++ (limit_line names limit is_cut ++ left_out_line names left_out);
+abbrev pub fat_of : Way → (limit : ℕ) → (is_cut : Bool) → (left_out : ℕ) → Shown → Shown
+fat_of w limit is_cut left_out shown = record {
+  text = w.texts.file_front left_out ++ (shown.text ++ w.texts.file_end is_cut (codes "fat file") w.file);
+  message = shown.message ++ omitted_lines w.names limit is_cut left_out;
   whole = shown.whole && (not is_cut && (left_out == 0));
   left = shown.left;
 }
@@ -153,21 +164,19 @@ abbrev pub archs_items : (bytes : List ℕ) → List FatArch → List ItemView
 archs_items bytes archs = items_before (archs_shown bytes archs) (items_in bytes)
 
 -- a file of which nothing is shown, and why
-abbrev pub refused_for : SinkTexts → (names name words : List ℕ) (left : ℕ) → Shown
-refused_for k names name words left = record { text = k.refused_file name words; message = complaint names words; whole = false; left = left }
+abbrev pub refused_for : Way → (words : List ℕ) (left : ℕ) → Shown
+refused_for w words left = record { text = w.texts.refused_file w.file words; message = complaint w.names words; whole = false; left = left }
 
 -- What is shown of a file: its one image, if its cpu is selected; of a fat file the selected items of its first entries, as long as
 -- these have no more bytes together than the file; or why it is refused, a fault that it has, or that memory ran out. The
 -- limit is that of the lines of all its images together, and of its images (`most_images`).
-pub data ShowsFile (k : SinkTexts) (names : List ℕ) (lines : ImageLines) (cpu : Cpu) (name : List ℕ) (limit : ℕ) (bytes : List ℕ) : Shown → Type 0 where
-  one_image : (shown : Shown) → IsTaken cpu bytes true → ShowsItem k names name lines limit unlabelled (Ok (whole_file bytes)) shown
-      → ShowsFile k names lines cpu name limit bytes (whole_of k (codes "image") name shown)
-  other_image : IsTaken cpu bytes false → ShowsFile k names lines cpu name limit bytes (refused_for k names name (other_words cpu) limit)
+pub data ShowsFile (w : Way) (cpu : Cpu) (limit : ℕ) (bytes : List ℕ) : Shown → Type 0 where
+  one_image : (shown : Shown) → IsTaken cpu bytes true → ShowsItem w limit unlabelled None (Ok (whole_file bytes)) shown
+      → ShowsFile w cpu limit bytes (whole_of w shown)
+  other_image : IsTaken cpu bytes false → ShowsFile w cpu limit bytes (refused_for w (other_words cpu) limit)
   fat_file : (file : FatFile) (archs : List FatArch) (shown : Shown) → IsFatTable bytes file archs → misses cpu archs ≡ false
-      → ShowsItems k names name lines bytes true limit (parts_within (most_images limit) cpu (archs_items bytes archs)) shown
-      → ShowsFile k names lines cpu name limit bytes
-      (fat_of k names name limit (are_more (most_images limit) cpu (archs_items bytes archs)) (archs_left_out bytes archs) shown)
+      → ShowsItems w bytes true limit (parts_within (most_images limit) cpu (archs_items bytes archs)) shown
+      → ShowsFile w cpu limit bytes (fat_of w limit (are_more (most_images limit) cpu (archs_items bytes archs)) (archs_left_out bytes archs) shown)
   no_entry : (file : FatFile) (archs : List FatArch) → IsFatTable bytes file archs → misses cpu archs ≡ true
-      → ShowsFile k names lines cpu name limit bytes (refused_for k names name (no_entry_words cpu) limit)
-  refused_file : (e : Error) → ErrorMeets (ViewFault bytes) e
-      → ShowsFile k names lines cpu name limit bytes (refused_for k names name (refused_words bytes e) limit)
+      → ShowsFile w cpu limit bytes (refused_for w (no_entry_words cpu) limit)
+  refused_file : (e : Error) → ErrorMeets (ViewFault bytes) e → ShowsFile w cpu limit bytes (refused_for w (refused_words bytes e) limit)

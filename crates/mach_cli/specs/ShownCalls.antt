@@ -14,21 +14,20 @@ use Rattle.mach_cli.specs.FirstMagic.{begins_fat}
 use Rattle.mach_cli.specs.InOrder.{InOrder}
 use Rattle.mach_cli.specs.Listed.{are_several, listed_names, name_end}
 use Rattle.mach_cli.specs.Labels.{LabelView, label_of, unlabelled}
-use Rattle.mach_cli.specs.Names.{names_text}
 use Rattle.mach_cli.specs.PartsOf.{parts_left_out, shown_parts}
 use Rattle.mach_cli.specs.TableEntries.{outside_at}
 use Rattle.mach_cli.specs.declared.entries.OutOfFile.{OutOfFile}
 use Rattle.mach_parts.specs.ArchForms.{arch_form_64}
 use Rattle.mach_cli.specs.FileTitles.{IsUnreadStatus, title_text}
 use Rattle.mach_cli.specs.Selected.{are_missed, are_more, parts_within}
-use Rattle.mach_cli.specs.Shown.{ImageLines, Shown, ShowsFile}
+use Rattle.mach_cli.specs.Shown.{ImageLines, Shown, ShowsFile, way_of}
 use Rattle.mach_cli.specs.ShownParts.{PartShown, shown_in, shows_file, shows_nothing, shows_within}
 use Rattle.mach_cli.specs.Sinks.{SinkTexts, json_texts, nm_texts, text_texts}
 use Rattle.mach_cli.specs.Statuses.{status_by}
 use Rattle.mach_cli.specs.Titles.{IsUnder, titled_contents}
 use Rattle.mach_cli.specs.declared.cpu.Cpu.{Cpu}
 use Rattle.mach_cli.specs.declared.files.Files.{Files}
-use Rattle.mach_cli.specs.declared.files.Running.{Running}
+use Rattle.mach_cli.specs.declared.files.Run.{Run}
 use Rattle.mach_cli.specs.declared.named.Others.{Others}
 use Rattle.mach_cli.specs.declared.image_files.ImageFiles.{ImageFiles}
 use Rattle.mach_cli.specs.declared.titled.Titled.{Titled}
@@ -41,7 +40,7 @@ Showing W = (name bytes : List ℕ) → (old new : W) → (status : ℕ) → Typ
 pub record ShowsImages {W B : Type 0} (k : SinkTexts) (program : List ℕ) (cpu : Cpu) (limit : ℕ) (lines : (file : List ℕ) → (limit : ℕ) → ImageLines)
     (contents : W → Option (List ℕ)) (name bytes : List ℕ) (old new : BufWriter W B) (status : ℕ) : Type 0 where
   pub shown : Shown
-  pub is_shown : let most = most_items limit bytes in ShowsFile k (names_text program name) (lines name most) cpu name most bytes shown
+  pub is_shown : let most = most_items limit bytes in ShowsFile (way_of k program name (lines name most)) cpu most bytes shown
   pub is_status : status ≡ status_by shown.whole
   pub written : Appends (writer_contents contents old) (writer_contents contents new) shown.text
   pub flushed : writer_buffer new ≡ []
@@ -56,8 +55,8 @@ pub record Manner (W B : Type 0) : Type 1 where
 abbrev pub manner_of : {W B : Type 0} → Files → (are_several is_nm : Bool) → Showing (BufWriter (Titled W) B) → Manner W B
 manner_of call are_several is_nm shows = record { call = call; are_several = are_several; is_nm = is_nm; shows = shows }
 
-abbrev pub manner_in : {W B : Type 0} → Running → Showing (BufWriter (Titled W) B) → Manner W B
-manner_in call shows = manner_of call.files call.are_several call.is_nm shows
+abbrev pub manner_in : {S W B : Type 0} → (S → Showing (BufWriter (Titled W) B)) → Run S W B → Manner W B
+manner_in shows run = manner_of run.files run.are_several run.is_nm (shows run.shows.now)
 
 -- What is shown of a file: the file itself, under its name and without a label; or a part of it, under its own name.
 pub record NamedPart : Type 0 where
@@ -102,7 +101,7 @@ pub data ShowsPart {W B : Type 0} (m : Manner W B) (file bytes : List ℕ) (x : 
 -- The status of a file by its parts: 1 at least if the limit leaves out some that are selected, or if entries are left out.
 abbrev pub parts_status : Files → (bytes : List ℕ) → (status : ℕ) → ℕ
 parts_status call bytes status =
-    max (max status (status_by (not (are_more (most_images call.limit) call.cpu (shown_parts bytes))))) (status_by (parts_left_out bytes == 0))
+    max status (status_by (not (are_more (most_images call.limit) call.cpu (shown_parts bytes)) && (parts_left_out bytes == 0)))
 
 -- What is shown of the bytes of a file: its first parts that are selected, as many as the limit allows, in order; or nothing, if none is
 -- selected; or the file as a whole, if the call doesn't show parts.

@@ -1,7 +1,7 @@
 //! Numbers that are printed at once: `write!` takes several times as long.
 
 ghost use Rattle.std.specs.Prelude.{false, ◌≡◌, ◌-◌, ◌^◌, ◌<◌, ◌≤◌, [], drop, OnOk};
-ghost use Rattle.std.specs.Fmt.{decimal, digit_glyph, digits, format_spec, padded_integral};
+ghost use Rattle.std.specs.Fmt.{decimal, digit_glyph, digits, format_spec, padded_integral, signed_decimal};
 ghost use Rattle.std.specs.Io.KnownBytes.{Appends};
 ghost use Rattle.mach_cli.specs.Fields.{hex, value_in_width};
 ghost use Rattle.mach_cli.specs.Listings.{hex_text};
@@ -52,6 +52,16 @@ pub fn print_decimal<O: Write>(number: u64, out: &mut O) -> io::Result<()>
     let mut text = [b'0'; MOST];
     let start = digits_in(10, number, &mut text);
     out.write_all(&text[start..])
+}
+
+/// Prints a number that may be negative, in decimal.
+pub(crate) fn print_signed<O: Write>(number: i128, out: &mut O) -> io::Result<()>
+    ensures { OnOk result (Appends (O.contents out.old) (O.contents out.new) (signed_decimal number)) }
+{
+    match u64::try_from(number) {
+        Ok(magnitude) => print_decimal(magnitude, out),
+        Err(_) => write!(out, "{number}"),
+    }
 }
 
 /// Prints a number in hexadecimal, after `0x`.

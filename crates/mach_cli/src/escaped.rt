@@ -1,16 +1,19 @@
 //! Names on one line, and bytes as hexadecimal digits.
 
-ghost use Rattle.std.specs.Prelude.{◌≡◌, ◌<◌, Some, flat_map, OnOk};
+ghost use Rattle.std.specs.Prelude.{◌≡◌, ◌<◌, ◌-◌, ◌++◌, Some, flat_map, length, OnOk};
 ghost use Rattle.std.specs.Int.{is_in_range};
 ghost use Rattle.std.specs.List.{list_all};
 ghost use Rattle.std.specs.Fmt.{WritesOnOk};
+ghost use Rattle.std.specs.Str.{chars};
 ghost use Rattle.std.specs.Io.KnownBytes.{Appends};
 ghost use Rattle.mach_cli.specs.Escapes.{byte_in, escape_len, escape_of, escape_text, escaped_bytes, escaped_text, hidden_char, hidden_len};
 ghost use Rattle.mach_cli.specs.Escapes.{char_of_four, char_of_three, char_of_two, hides_four, hides_three, hides_two, is_hidden, is_quoted, is_tail};
 ghost use Rattle.mach_cli.specs.Escapes.{is_visible, json_escape, written};
+ghost use Rattle.mach_cli.specs.Fields.{spaces};
 ghost use Rattle.mach_cli.specs.SignatureNames.{bytes_text};
 
 use crate::digits::digit;
+use crate::spaces::print_spaces;
 use std::fmt::{Display, Formatter};
 use std::io::Write;
 use std::{fmt, io};
@@ -353,6 +356,25 @@ pub fn print_escaped<O: Write>(name: &str, out: &mut O) -> io::Result<()>
     ensures { OnOk result (Appends (O.contents out.old) (O.contents out.new) (escaped_text name.now)) }
 {
     print_written(Style::Name, name, out)
+}
+
+// Returns how many characters a text has.
+fn char_len(text: &str) -> usize
+    ensures { result ≡ length (chars text.now) }
+{
+    text.chars().count()
+}
+
+// Prints a name on one line, and spaces after it up to so many characters. A name of visible ASCII has as many as bytes.
+pub(crate) fn print_wide_escaped<O: Write>(name: &str, width: usize, out: &mut O) -> io::Result<()>
+    ensures { OnOk result (Appends (O.contents out.old) (O.contents out.new) (escaped_text name.now ++ spaces (width - length (chars name.now)))) }
+{
+    if are_visible(Style::Name, name.as_bytes()) {
+        out.write_all(name.as_bytes())?;
+        return print_spaces(width.saturating_sub(name.len()), out);
+    }
+    print_escaped(name, out)?;
+    print_spaces(width.saturating_sub(char_len(name)), out)
 }
 
 /// Prints bytes, two digits each.

@@ -1,23 +1,25 @@
 //! What is shown of an item of a list, field by field: as a line of text, or as an object of JSON.
 
-ghost use Rattle.std.specs.Prelude.{◌≡◌, ◌++◌, Some, flat_map, length, map, OnOk};
-ghost use Rattle.std.specs.Str.{chars};
+ghost use Rattle.std.specs.Prelude.{◌≡◌, ◌++◌, Some, flat_map, map, OnOk};
 ghost use Rattle.std.specs.Io.KnownBytes.{Appends};
 ghost use Rattle.mach_parts.specs.PointerSigning.{auth_option_view, auth_view};
-ghost use Rattle.mach_cli.specs.Fields.{alone_field, column_field, column_text, comma_member, field_member, field_of, field_view, fields_line};
-ghost use Rattle.mach_cli.specs.Fields.{fields_object, fields_pairs, flags_text, key_text, line_field, object_field, opened_object, pair_field};
+ghost use Rattle.mach_cli.specs.Fields.{AreSpans, alone_field, column_field, column_of, column_text, comma_member, field_member, field_of, field_view};
+ghost use Rattle.mach_cli.specs.Fields.{fields_line, fields_object, fields_pairs, flags_text, key_text, line_field, object_field, opened_object, pair_field};
 ghost use Rattle.mach_cli.specs.Fields.{value_in_line, value_in_object, value_in_width, value_view, whether, wide_field, word_if};
 
-use crate::digits::{print_decimal, print_hexadecimal, print_wide_hexadecimal};
-use crate::escaped::print_escaped;
+use crate::digits::{print_decimal, print_hexadecimal, print_signed, print_wide_hexadecimal};
+use crate::escaped::{print_escaped, print_wide_escaped};
 use crate::json::text::print_string;
 use crate::record_fields::{RecordFields, print_record_members, print_record_pairs};
-use crate::spaces::print_spaces;
 use goblin_mach::chained_fixups::PointerAuth;
 use goblin_mach::names::{SourceVersionText, UuidText, VersionText};
 use std::fmt::{Display, Formatter};
 use std::io::Write;
 use std::{fmt, io};
+
+mod spans;
+
+use self::spans::{Spans, fields_in, spans_of};
 
 /// The value of a field.
 #[derive(Clone, Copy)]
@@ -189,7 +191,7 @@ fn print_value<O: Write>(value: Value<'_>, out: &mut O) -> io::Result<()>
 {
     match value {
         Value::Number(number) => print_decimal(number, out),
-        Value::Signed(number) => write!(out, "{number}"),
+        Value::Signed(number) => print_signed(number, out),
         Value::Hex(number) => print_hexadecimal(number, out),
         Value::Named(number, "") => print_decimal(number, out),
         Value::Named(_, name) => print_escaped(name, out),
@@ -224,13 +226,6 @@ fn print_value<O: Write>(value: Value<'_>, out: &mut O) -> io::Result<()>
     }
 }
 
-// Returns how many characters a text has.
-fn char_len(text: &str) -> usize
-    ensures { result ≡ length (chars text.now) }
-{
-    text.chars().count()
-}
-
 // Prints a value as a column of at least so many characters has it.
 fn print_wide<O: Write>(value: Value<'_>, width: usize, out: &mut O) -> io::Result<()>
     ensures { OnOk result (Appends (O.contents out.old) (O.contents out.new) (value_in_width width (value_view value.entry))) }
@@ -238,10 +233,7 @@ fn print_wide<O: Write>(value: Value<'_>, width: usize, out: &mut O) -> io::Resu
     match value {
         Value::Number(number) => write!(out, "{number:>width$}"),
         Value::Hex(number) => print_wide_hexadecimal(number, width, out),
-        Value::Text(text) => {
-            print_escaped(text, out)?;
-            print_spaces(width.saturating_sub(char_len(text)), out)
-        }
+        Value::Text(text) => print_wide_escaped(text, width, out),
         value => print_value(value, out),
     }
 }
@@ -252,7 +244,7 @@ fn print_in_object<O: Write>(value: Value<'_>, out: &mut O) -> io::Result<()>
 {
     match value {
         Value::Number(number) => print_decimal(number, out),
-        Value::Signed(number) => write!(out, "{number}"),
+        Value::Signed(number) => print_signed(number, out),
         Value::Hex(number) => print_decimal(number, out),
         Value::Named(number, _) => print_decimal(number, out),
         Value::Text(text) => print_string(text, out),
@@ -383,9 +375,9 @@ impl FieldsForm for Object {
                 print_others(others, out)?;
             }
             ([], [first, next @ ..]) => print_opened(first, next, out)?,
-            ([], []) => write!(out, "{{")?,
+            ([], []) => out.write_all(b"{")?,
         }
-        write!(out, "}}")
+        out.write_all(b"}")
     }
 
     fn write_record<O: Write>(
@@ -396,7 +388,7 @@ impl FieldsForm for Object {
     ) -> io::Result<()> {
         print_opened(first, fields, out)?;
         print_record_members(shown, out)?;
-        write!(out, "}}")
+        out.write_all(b"}")
     }
 }
 
@@ -413,14 +405,31 @@ fn print_columns<O: Write>(
     ensures { OnOk result (Appends (O.contents out.old) (O.contents out.new)
         (flat_map (column_text (map field_view fields.now ++ map field_view others.now)) columns.now)) }
 {
+    let spans = spans_of(fields);
+    let other_spans = spans_of(others);
     'columns: for column in columns {
-        print_column(fields, *column, out)?;
-        print_column(others, *column, out)?;
+        print_column_in(&spans, fields, *column, out)?;
+        print_column_in(&other_spans, others, *column, out)?;
     }
     Ok(())
 }
 
+// Prints the fields of a column, given where they are, after a space unless it is the first.
+#[inline(always)]
+fn print_column_in<O: Write>(
+    spans: &Spans,
+    fields: &[Field<'_>],
+    column: usize,
+    out: &mut O,
+) -> io::Result<()>
+    requires { AreSpans (map column_of fields.now) spans.now.starts spans.now.ends }
+    ensures { OnOk result (Appends (O.contents out.old) (O.contents out.new) (column_text (map field_view fields.now) column)) }
+{
+    print_column(fields_in(spans, fields, column), column, out)
+}
+
 // Prints the fields of a column, after a space unless it is the first.
+#[inline(always)]
 fn print_column<O: Write>(fields: &[Field<'_>], column: usize, out: &mut O) -> io::Result<()>
     ensures { OnOk result (Appends (O.contents out.old) (O.contents out.new) (column_text (map field_view fields.now) column)) }
 {
@@ -470,7 +479,7 @@ pub fn print_pair<O: Write>(field: &Field<'_>, out: &mut O) -> io::Result<()>
 fn print_opened<O: Write>(first: &Field<'_>, next: &[Field<'_>], out: &mut O) -> io::Result<()>
     ensures { OnOk result (Appends (O.contents out.old) (O.contents out.new) (opened_object (field_view first.now) (map field_view next.now))) }
 {
-    write!(out, "{{")?;
+    out.write_all(b"{")?;
     print_member(first, out)?;
     print_others(next, out)
 }
@@ -492,7 +501,7 @@ pub fn print_next_member<O: Write>(field: &Field<'_>, out: &mut O) -> io::Result
     if field.name.is_empty() {
         return Ok(());
     }
-    write!(out, ",")?;
+    out.write_all(b",")?;
     print_member(field, out)
 }
 

@@ -35,6 +35,7 @@ impl<V: ImageView, K: Sink, W: Write + Drop, B: Allocator> FileView<BufWriter<W,
 
     fn show(&self, rt: &HostRuntime, name: &str, bytes: &[u8], out: &mut BufWriter<W, B>) -> u8 {
         let document = Document {
+            rt,
             names: Names {
                 program: self.program.name,
                 file: name,
@@ -44,6 +45,6 @@ impl<V: ImageView, K: Sink, W: Write + Drop, B: Allocator> FileView<BufWriter<W,
             view: &self.view,
             sink: self.sink,
         };
-        document.run(&rt.alloc(), bytes, out, &mut rt.stderr())
+        document.run(bytes, out, &mut rt.stderr())
     }
 }

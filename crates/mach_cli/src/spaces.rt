@@ -33,6 +33,9 @@ impl Display for Spaces {
 pub(crate) fn print_spaces<O: Write>(count: usize, out: &mut O) -> io::Result<()>
     ensures { OnOk result (Appends (O.contents out.old) (O.contents out.new) (spaces count)) }
 {
+    if count == 0 {
+        return Ok(());
+    }
     match BLANKS.get(..count) {
         Some(blanks) => out.write_all(blanks.as_bytes()),
         None => {

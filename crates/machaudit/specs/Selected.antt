@@ -9,7 +9,6 @@ use Rattle.goblin_mach.specs.FatFile.{FatFile}
 use Rattle.goblin_mach.specs.View.{ViewFault}
 use Rattle.mach_cli.specs.Cpus.{IsTaken, is_selected, misses}
 use Rattle.mach_cli.specs.Shown.{IsFatTable}
-use Rattle.mach_cli.specs.ShownCalls.{Showing}
 use Rattle.mach_cli.specs.declared.cpu.Cpu.{Cpu}
 use Rattle.mach_cli.specs.declared.cpu.Cpu.TheVariants.{Any}
 use Rattle.mach_audit.specs.Overlaid.{AreOverlaid}
@@ -68,7 +67,3 @@ pub data FailsFor (cpu : Cpu) (limit : ℕ) (bytes : List ℕ) : Type 0 where
 pub data MissesAll (cpu : Cpu) (bytes : List ℕ) : Type 0 where
   other_image : IsTaken cpu bytes false → MissesAll cpu bytes
   no_entry : (file : FatFile) (archs : List FatArch) → IsFatTable bytes file archs → misses cpu archs ≡ true → MissesAll cpu bytes
-
--- A file is audited: with status 0 what is for the cpu of it is sound.
-abbrev pub ShowsAudit : {W : Type 0} → Cpu → Showing W
-ShowsAudit cpu name bytes old new status = status ≡ 0 → IsSoundFor cpu bytes

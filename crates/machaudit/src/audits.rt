@@ -18,9 +18,9 @@ pub struct Audits {
 }
 
 impl<W: Write + Drop, B: Allocator> FileView<BufWriter<W, B>> for Audits {
-    ghost use Rattle.machaudit.specs.Selected.{ShowsAudit};
+    ghost use Rattle.machaudit.specs.Audited.{ShowsAudit};
 
-    ghost shows = { λ s. ShowsAudit s.cpu };
+    ghost shows = { λ s. ShowsAudit W.contents s.options s.cpu };
 
     fn show(&self, rt: &HostRuntime, name: &str, bytes: &[u8], out: &mut BufWriter<W, B>) -> u8 {
         let call = Call {

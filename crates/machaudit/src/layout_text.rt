@@ -1,5 +1,7 @@
 //! Faults of layout, the first ten of each rule.
 
+ghost use Rattle.std.specs.Prelude.{◌≡◌, ◌+◌, ◌-◌, ◌^◌, min, nat_lt};
+
 use mach_audit::MOST_REPORTED;
 use mach_layout::{LayoutFault, Rule};
 use std::io;
@@ -19,11 +21,10 @@ impl Counts {
 
     /// Counts one more fault of a rule, and returns whether it is one of the first ten.
     pub fn is_reported(&mut self, rule: Rule) -> bool {
-        let Some(count) = self.counts.get_mut(rule as usize) else {
-            return true;
-        };
-        *count = count.saturating_add(1);
-        *count <= MOST_REPORTED
+        match self.counts.get_mut(rule as usize) {
+            Some(count) => is_among_first(count),
+            None => true,
+        }
     }
 
     /// Returns how many faults of a rule were not printed; call it once for each rule.
@@ -35,6 +36,16 @@ impl Counts {
         *count = 0;
         more
     }
+}
+
+// Counts one more fault, and returns whether it is one of the first ten.
+fn is_among_first(count: &mut usize) -> bool
+    ensures counted { count.new ≡ min (count.old + 1) (2 ^ 64 - 1) }
+    ensures first { result ≡ nat_lt count.old 10 }
+{
+    let before = *count;
+    *count = before.saturating_add(1);
+    before < MOST_REPORTED
 }
 
 /// Prints faults of layout, the first ten of each rule.

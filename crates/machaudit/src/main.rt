@@ -1,6 +1,9 @@
 //! Reports what is wrong with Mach-O files: whether each opens, and each part of it that can't be read or lies where it must not.
 #![tactic(auto)]
 
+ghost use Rattle.std.specs.Prelude.{◌≡◌, IfOk};
+ghost use Rattle.machaudit.specs.Calls.{audit_options, AreAuditedFiles, ShowsAudits};
+
 // What is audited of each file.
 mod audits;
 mod selection;
@@ -17,8 +20,9 @@ mod text;
 use crate::audits::Audits;
 use crate::options::{DEFAULT_LIMIT, Options};
 use crate::output::NAME;
-use mach_cli::{Call, Files, Misuse, Program, SharedOnly};
+use mach_cli::{Call, Files, Misuse, Program, SharedOnly, Titled};
 use std::alloc::{AllocError, Global};
+use std::io::{BufWriter, Write};
 use std::process::ExitCode;
 
 const PROGRAM: Program = Program {
@@ -68,24 +72,50 @@ fn audit_files(rt: &HostRuntime, call: &Call<'_, Global, SharedOnly>) -> Result<
     let Ok(only) = only_of(rt.alloc(), others.are_several(files.len()), files) else {
         return Err(PROGRAM.out_of_memory(rt));
     };
-    let limit = call.limit.unwrap_or(DEFAULT_LIMIT);
-    let audits = Audits {
+    let mut lines = PROGRAM.output(rt, call.color, call.format)?;
+    show_call(rt, call, only, &mut lines)
+}
+
+// Audits what is for a call's cpu of all files that it names, in order, and returns the worst status. `only` is the only file of the
+// call, and empty if there may be several.
+fn show_call<W: Write + Drop>(
+    rt: &HostRuntime,
+    call: &Call<'_, Global, SharedOnly>,
+    only: String,
+    out: &mut BufWriter<Titled<W>>,
+) -> Result<u8, u8>
+    ensures { IfOk result (ShowsAudits W.contents call.now out.old out.new) }
+{
+    let audits = audits_by(call, only);
+    shown_by(call).show(rt, &audits, &call.words, &call.others, out)
+}
+
+// Returns how a call audits each file.
+fn audits_by(call: &Call<'_, Global, SharedOnly>, only: String) -> Audits
+    ensures cpu { result.cpu ≡ call.now.cpu }
+    ensures options { result.options ≡ audit_options call.now }
+{
+    Audits {
         cpu: call.cpu,
         options: Options {
             format: call.format,
-            limit,
+            limit: call.limit.unwrap_or(DEFAULT_LIMIT),
         },
         only,
-    };
-    let mut lines = PROGRAM.output(rt, call.color, call.format)?;
-    let shown = Files {
+    }
+}
+
+// Returns how a call shows its files: part by part, without titles.
+fn shown_by(call: &Call<'_, Global, SharedOnly>) -> Files
+    ensures { AreAuditedFiles call.now result }
+{
+    Files {
         program: PROGRAM,
         cpu: call.cpu,
         has_titles: false,
         has_parts: true,
-        limit,
-    };
-    shown.show(rt, &audits, files, others, &mut lines)
+        limit: call.limit.unwrap_or(DEFAULT_LIMIT),
+    }
 }
 
 // Returns the name of the only file of a call; empty if there may be several.

@@ -1,17 +1,17 @@
 //! What the program prints, and its exit status.
 
-ghost use Rattle.std.specs.Prelude.{◌≡◌, ◌≤◌, ◌⊎◌, [], codes, IfOk, OnOk};
+ghost use Rattle.std.specs.Prelude.{◌≡◌, ◌≤◌, ◌⊎◌, [], codes, IfErr, IfOk, OnOk};
 ghost use Rattle.std.specs.Io.Buffered.{writer_buffer, writer_contents};
 ghost use Rattle.std.specs.Io.KnownBytes.{Appends};
 ghost use Rattle.mach_audit.specs.Sound.{IsSound, IsLong};
-ghost use Rattle.mach_cli.specs.Escapes.{IsOneLine};
+ghost use Rattle.mach_cli.specs.Failures.{IfMemory};
 ghost use Rattle.mach_cli.specs.Foreigners.{refused_kind};
 ghost use Rattle.mach_audit.specs.Report.{refusal_in};
+ghost use Rattle.machaudit.specs.Audited.{AuditsFile};
 ghost use Rattle.machaudit.specs.Foreign.{SaysForeign, foreign_message, kind_message, message_about};
 ghost use Rattle.machaudit.specs.Quiet.{quiet_line, status_of};
-ghost use Rattle.mach_audit.specs.Verdicts.{Judges, verdict_of_report};
+ghost use Rattle.mach_audit.specs.Verdicts.{verdict_of_report};
 ghost use Rattle.mach_cli.specs.declared.options.Format.TheVariants as formats;
-ghost use Rattle.mach_audit.specs.declared.verdict.Soundness.{Soundness};
 
 use crate::json::print_object;
 use crate::options::Options;
@@ -45,7 +45,7 @@ pub struct Call<'a> {
 ///
 /// It is 0 if the file is sound and none of its lists is longer than the limit, else 1. All that is printed has left the buffer
 /// then. With `--quiet` it is one line, which says the same as the status. If the file doesn't open and is not Mach-O, `err` has
-/// a line with its kind, unless it is an entry that is out of its fat file.
+/// a line with its kind, unless it is an entry that is out of its fat file. If memory runs out nothing is printed.
 pub fn run<A: Allocator + Clone, W: Write + Drop, B: Allocator, E: Write>(
     alloc: &A,
     call: Call<'_>,
@@ -57,10 +57,8 @@ pub fn run<A: Allocator + Clone, W: Write + Drop, B: Allocator, E: Write>(
     ensures sound { IfOk result (λ status. status ≡ 0 → IsSound bytes.now) }
     ensures whole { IfOk result (λ status. status ≡ 0 → IsLong call.entry.options.limit bytes.now → ⊥) }
     ensures faulty { IfOk result (λ status. status ≡ 1 → (IsSound bytes.now → ⊥) ⊎ IsLong call.entry.options.limit bytes.now) }
-    ensures quiet { IfOk result (λ status. call.entry.options.format ≡ formats.Quiet → (v : Soundness) × (status ≡ status_of v)
-        × Judges (IsSound bytes.now) (IsLong call.entry.options.limit bytes.now) v × IsOneLine (quiet_line call.entry.name.now v)
-        × Appends (writer_contents W.contents out.old) (writer_contents W.contents out.new) (quiet_line call.entry.name.now v)) }
-    ensures flushed { OnOk result (writer_buffer out.new ≡ []) }
+    ensures audited { IfOk result (AuditsFile W.contents call.entry.options call.entry.name.now bytes.now out.old out.new) }
+    ensures memory { IfErr result (IfMemory (out.new ≡ out.old)) }
     ensures message { OnOk result (SaysForeign call.entry.outside call.entry.name.now bytes.now (E.contents err.old) (E.contents err.new)) }
 {
     let Ok(report) = audit_mach(alloc, bytes, call.options.limit) else {

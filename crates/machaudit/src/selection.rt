@@ -1,10 +1,12 @@
 //! What of a file is audited, given the selected cpu.
 
-ghost use Rattle.std.specs.Prelude.{◌≡◌, ◌≤◌, ◌⊎◌, List, ℕ, IfOk, Ok};
+ghost use Rattle.std.specs.Prelude.{◌≡◌, ◌≤◌, ◌⊎◌, List, ℕ, string_bytes, take, IfErr, IfOk, Ok};
 ghost use Rattle.goblin_mach.specs.FatFile.{fat_file_in, file_view};
 ghost use Rattle.goblin_mach.specs.File.{HasFatMagic};
+ghost use Rattle.machaudit.specs.Audited.{audited_name, AreAudited, AuditsAll, AuditsEntries, AuditsFile, AuditsSome, WritesAudited, WritesUntilMemory};
 ghost use Rattle.machaudit.specs.Selected.{EntriesFail, EntriesSound, IsFailing, FailsFor, IsSelectedFor, IsSoundFor, MissesAll};
 ghost use Rattle.mach_cli.specs.Cpus.{is_selected};
+ghost use Rattle.mach_cli.specs.Failures.{IfMemory};
 ghost use Rattle.mach_parts.specs.ArchForms.{arch_form_32};
 ghost use Rattle.mach_audit.specs.Overlaid.{AreOverlaid};
 ghost use Rattle.mach_audit.specs.Sound.{IsSound};
@@ -47,7 +49,7 @@ enum Selected<A: Allocator> {
 /// The file is audited as a whole if any cpu is selected, if it is one image for the cpu, or if it doesn't open. Otherwise each
 /// entry for the cpu is audited as a file of its own, under the file's name and its index. The status is 0 if each is sound and
 /// none of its lists is longer than the limit. It is 1 if one isn't sound or has a longer list; and also if nothing is for the
-/// cpu, and then `err` has a line that says so.
+/// cpu, and then `err` has a line that says so. All that is printed has left the buffer.
 pub fn run_for<A: Allocator + Clone, W: Write + Drop, B: Allocator, E: Write>(
     alloc: &A,
     cpu: Cpu,
@@ -59,6 +61,8 @@ pub fn run_for<A: Allocator + Clone, W: Write + Drop, B: Allocator, E: Write>(
     ensures bounds { IfOk result (λ status. status ≤ 1) }
     ensures sound { IfOk result (λ status. status ≡ 0 → IsSoundFor cpu bytes.now) }
     ensures faulty { IfOk result (λ status. status ≡ 1 → FailsFor cpu call.entry.options.limit bytes.now ⊎ MissesAll cpu bytes.now) }
+    ensures written { IfOk result (WritesAudited W.contents call.entry.options cpu call.entry.name.now bytes.now out.old out.new) }
+    ensures memory { IfErr result (IfMemory (WritesUntilMemory W.contents call.entry.options cpu call.entry.name.now bytes.now out.old out.new)) }
 {
     match selected_of(alloc, cpu, bytes)? {
         Selected::Whole => run(alloc, call, bytes, out, err),
@@ -132,6 +136,9 @@ fn run_within<A: Allocator + Clone, W: Write + Drop, B: Allocator, E: Write>(
     ensures sound { IfOk result (λ status. status ≡ 0 → EntriesSound cpu bytes.now archs.now) }
     ensures faulty { IfOk result (λ status. status ≡ 1 → EntriesFail cpu call.entry.options.limit bytes.now archs.now
         ⊎ AreOverlaid arch_form_32 (is_selected cpu) bytes.now archs.now) }
+    ensures written { IfOk result (AuditsEntries W.contents call.entry.options cpu call.entry.name.now bytes.now archs.now out.old out.new) }
+    ensures memory { IfErr result (IfMemory ((n : ℕ) × AreAudited cpu bytes.now archs.now n
+        × AuditsSome W.contents call.entry.options cpu call.entry.name.now bytes.now (take n archs.now) out.old out.new)) }
 {
     let most = entries_within(&ForCpu(cpu), archs.len(), bytes, archs);
     let status = run_entries(alloc, cpu, call, bytes, &archs[..most], out, err)?;
@@ -169,6 +176,8 @@ fn run_entries<A: Allocator + Clone, W: Write + Drop, B: Allocator, E: Write>(
     ensures bounds { IfOk result (λ status. status ≤ 1) }
     ensures sound { IfOk result (λ status. status ≡ 0 → EntriesSound cpu bytes.now archs.now) }
     ensures faulty { IfOk result (λ status. status ≡ 1 → EntriesFail cpu call.entry.options.limit bytes.now archs.now) }
+    ensures audited { IfOk result (AuditsAll W.contents call.entry.options cpu call.entry.name.now bytes.now archs.now out.old out.new) }
+    ensures memory { IfErr result (IfMemory (AuditsSome W.contents call.entry.options cpu call.entry.name.now bytes.now archs.now out.old out.new)) }
 {
     let mut worst = 0u8;
     'archs: for (index, arch) in archs.iter().enumerate() {
@@ -196,6 +205,8 @@ fn run_entry<A: Allocator + Clone, W: Write + Drop, B: Allocator, E: Write>(
     ensures bounds { IfOk result (λ status. status ≤ 1) }
     ensures sound { IfOk result (λ status. status ≡ 0 → IsSound entry.now) }
     ensures faulty { IfOk result (λ status. status ≡ 1 → IsFailing call.entry.options.limit entry.now) }
+    ensures audited { IfOk result (AuditsFile W.contents call.entry.options (audited_name call.entry.name.now index) entry.now out.old out.new) }
+    ensures memory { IfErr result (IfMemory (out.new ≡ out.old)) }
 {
     let name = entry_name(alloc.clone()?, call.name, index)?;
     let call = Call {
@@ -208,6 +219,8 @@ fn run_entry<A: Allocator + Clone, W: Write + Drop, B: Allocator, E: Write>(
 }
 
 // Returns the name of a file's entry.
-fn entry_name<A: Allocator>(alloc: A, file: &str, index: usize) -> Result<String<A>, AllocError> {
+fn entry_name<A: Allocator>(alloc: A, file: &str, index: usize) -> Result<String<A>, AllocError>
+    ensures { IfOk result (λ name. string_bytes name ≡ audited_name file.now index) }
+{
     format!(in alloc; "{file}: arch {index}")
 }

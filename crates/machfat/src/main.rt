@@ -32,6 +32,7 @@ mod verify;
 mod archive;
 
 ghost use Rattle.std.specs.Prelude.{◌≡◌, [], if◌then◌else◌, option_map, slice_get, Ok, Err, Some, IfErr, IfOk, OnOk};
+ghost use Rattle.mach_cli.specs.Bounds.{limit_of};
 ghost use Rattle.mach_cli.specs.FileTitles.{IsUnreadStatus};
 ghost use Rattle.mach_cli.specs.Statuses.{IsStatus, IsUnwritten};
 ghost use Rattle.mach_cli.specs.declared.cpu.Cpu.{Cpu};
@@ -194,9 +195,33 @@ fn show_files(
     if files.is_empty() && call.others.is_empty() {
         return Err(PROGRAM.bad_usage(rt, Misuse::Missing("FILE")));
     }
-    let limit = call.limit.unwrap_or(DEFAULT_LIMIT);
     let mut out = PROGRAM.output(rt, call.color, call.format)?;
-    show(rt, Selected { shown, limit }, files, &call.others, &mut out)
+    show_call(rt, call, shown, files, &mut out)
+}
+
+// Returns what a call selects of each file: this, and as many lines as its limit says.
+fn selected_by(call: &Call<'_, Global, Width>, shown: Shown) -> Selected
+    ensures { result ≡ record { shown = shown; limit = limit_of call.now.limit 10000000 } }
+{
+    Selected {
+        shown,
+        limit: call.limit.unwrap_or(DEFAULT_LIMIT),
+    }
+}
+
+// Shows what a call selects of files, and of those that it names in other ways, and returns the worst status.
+fn show_call<W: Write + Drop>(
+    rt: &HostRuntime,
+    call: &Call<'_, Global, Width>,
+    shown: Shown,
+    files: &[&str],
+    out: &mut BufWriter<Titled<W>>,
+) -> Result<u8, u8>
+    ensures shown { let selected = record { shown = shown; limit = limit_of call.now.limit 10000000 } in
+        IfOk result (ShowsSelectedFiles selected W.contents files.now call.now.others out.old out.new) }
+    ensures unwritten { IfErr result (λ status. IsUnwritten status) }
+{
+    show(rt, selected_by(call, shown), files, &call.others, out)
 }
 
 // Shows what is selected of files in order, and returns the worst status. The status of a failed write is an error.

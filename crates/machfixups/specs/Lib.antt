@@ -12,3 +12,4 @@ pub mod RowFields
 pub mod Headed
 pub mod ImageLines
 pub mod JsonImages
+pub mod Calls

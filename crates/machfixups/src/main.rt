@@ -30,10 +30,10 @@
 //!   if rebases, binds or chains are selected.
 #![tactic(auto)]
 
-ghost use Rattle.std.specs.Prelude.{◌≡◌, codes, true, false, IfOk};
-ghost use Rattle.mach_cli.specs.Bounds.{limit_of};
+ghost use Rattle.std.specs.Prelude.{◌≡◌, true, false, IfOk};
 ghost use Rattle.mach_cli.specs.Calls.{is_json};
 ghost use Rattle.mach_cli.specs.ShownCalls.{ShowsJson, ShowsText};
+ghost use Rattle.machfixups.specs.Calls.{AreFixupFiles, ShowsFixupLines, ShowsFixupObjects};
 ghost use Rattle.machfixups.specs.ImageLines.{image_pointer_lines};
 ghost use Rattle.machfixups.specs.JsonImages.{image_pointer_members};
 
@@ -100,23 +100,28 @@ fn start(rt: &HostRuntime) -> Result<u8, u8> {
 
 // Shows the selected lists of files in order, and returns the worst status.
 fn show_files(rt: &HostRuntime, call: &Call<'_, Global, Selection>) -> Result<u8, u8> {
-    let (files, others) = (&call.words, &call.others);
-    if files.is_empty() && others.is_empty() {
+    if call.words.is_empty() && call.others.is_empty() {
         return Err(PROGRAM.bad_usage(rt, Misuse::Missing("FILE")));
     }
     let mut out = PROGRAM.output(rt, call.color, call.format)?;
-    show(rt, &shown_by(call), files, others, &mut out)
+    show_call(rt, call, &mut out)
+}
+
+// Shows what a call selects of all files that it names, and returns the worst status.
+fn show_call<W: Write + Drop>(
+    rt: &HostRuntime,
+    call: &Call<'_, Global, Selection>,
+    out: &mut BufWriter<Titled<W>>,
+) -> Result<u8, u8>
+    ensures lines { is_json call.now.format ≡ false → IfOk result (ShowsFixupLines W.contents call.now out.old out.new) }
+    ensures objects { is_json call.now.format ≡ true → IfOk result (ShowsFixupObjects W.contents call.now out.old out.new) }
+{
+    show(rt, &shown_by(call), &call.words, &call.others, out)
 }
 
 // Returns how a call shows its files: the selected lists, as lines or as objects.
 fn shown_by(call: &Call<'_, Global, Selection>) -> ImageFiles<FixupLines, FixupObjects>
-    ensures program { result.program.name.now ≡ codes "machfixups" }
-    ensures cpu { result.cpu ≡ call.now.cpu }
-    ensures limit { result.limit ≡ limit_of call.now.limit 10000000 }
-    ensures form { result.is_json ≡ is_json call.now.format }
-    ensures titles { result.has_titles ≡ true }
-    ensures lines { result.lines ≡ record { selection = call.now.own } }
-    ensures objects { result.objects ≡ record { selection = call.now.own } }
+    ensures { AreFixupFiles call.now result }
 {
     let selection = call.own;
     let (lines, objects) = (FixupLines { selection }, FixupObjects { selection });

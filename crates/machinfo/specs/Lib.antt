@@ -29,3 +29,4 @@ pub mod Imports
 pub mod PartLines
 pub mod SegmentStatus
 pub mod FrontStatus
+pub mod Calls

@@ -9,10 +9,10 @@
 //! be read is a line with the error. With `--json` it writes one object for each file instead, on a line.
 #![tactic(auto)]
 
-ghost use Rattle.std.specs.Prelude.{◌≡◌, codes, false, true, IfOk, IfSome};
-ghost use Rattle.mach_cli.specs.Bounds.{limit_of};
+ghost use Rattle.std.specs.Prelude.{◌≡◌, false, true, IfOk, IfSome};
 ghost use Rattle.mach_cli.specs.Calls.{is_json};
 ghost use Rattle.mach_cli.specs.ShownCalls.{ShowsJson, ShowsText};
+ghost use Rattle.machinfo.specs.Calls.{AreInfoFiles, ShowsInfoLines, ShowsInfoObjects};
 ghost use Rattle.machinfo.specs.ImageLines.{AreInfoLines, AreInfoMembers};
 ghost use Rattle.machinfo.specs.Words as words;
 
@@ -135,21 +135,28 @@ fn answer(rt: &HostRuntime, call: &Call<'_, Global, SharedOnly>) -> Result<u8, u
         Ok(selection) => selection,
         Err(misuse) => return Err(PROGRAM.bad_usage(rt, misuse)),
     };
-    let (files, others) = (selection.files, &call.others);
-    if files.is_empty() && others.is_empty() {
+    if selection.files.is_empty() && call.others.is_empty() {
         return Err(PROGRAM.bad_usage(rt, Misuse::Missing("FILE")));
     }
     if let Some(misuse) = misspelled(rt, selection) {
         return Err(PROGRAM.bad_usage(rt, misuse));
     }
     let mut out = PROGRAM.output(rt, call.color, call.format)?;
-    show(
-        rt,
-        &shown_by(call, selection.choice),
-        files,
-        others,
-        &mut out,
-    )
+    show_selected(rt, call, selection, &mut out)
+}
+
+// Shows a selection of the files of a call, and of those that the call names in other ways, and returns the worst status.
+fn show_selected<W: Write + Drop>(
+    rt: &HostRuntime,
+    call: &Call<'_, Global, SharedOnly>,
+    selection: Selection<'_, '_>,
+    out: &mut BufWriter<Titled<W>>,
+) -> Result<u8, u8>
+    ensures lines { is_json call.now.format ≡ false → IfOk result (ShowsInfoLines W.contents call.now selection.entry out.old out.new) }
+    ensures objects { is_json call.now.format ≡ true → IfOk result (ShowsInfoObjects W.contents call.now selection.entry out.old out.new) }
+{
+    let shown = shown_by(call, selection.choice);
+    show(rt, &shown, selection.files, &call.others, out)
 }
 
 // Returns what is wrong with a first file before others that is nearly a word, if nothing is selected: it is of small letters alone,
@@ -173,9 +180,7 @@ fn shown_by(
     call: &Call<'_, Global, SharedOnly>,
     choice: Option<Choice>,
 ) -> ImageFiles<InfoLines, InfoObjects>
-    ensures program { (result.program.name.now ≡ codes "machinfo") × (result.has_titles ≡ true) }
-    ensures call { (result.cpu ≡ call.now.cpu) × (result.limit ≡ limit_of call.now.limit 10000000) × (result.is_json ≡ is_json call.now.format) }
-    ensures view { (result.lines ≡ record { choice = choice }) × (result.objects ≡ record { choice = choice }) }
+    ensures { AreInfoFiles call.now choice result }
 {
     let (lines, objects) = (InfoLines { choice }, InfoObjects { choice });
     ImageFiles::of(PROGRAM, call, DEFAULT_LIMIT, lines, objects)

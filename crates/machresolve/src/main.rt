@@ -7,6 +7,14 @@
 //! `--limit` says; a line says so if an image has more than what is left.
 #![tactic(auto)]
 
+ghost use Rattle.std.specs.Prelude.{◌≡◌, ◌≤◌, [], map};
+ghost use Rattle.std.specs.Io.Buffered.{writer_buffer, writer_contents};
+ghost use Rattle.mach_cli.specs.Bounds.{limit_of, most_items};
+ghost use Rattle.mach_cli.specs.Statuses.{IsStatus};
+ghost use Rattle.mach_resolve.specs.Opened.{given_view};
+ghost use Rattle.machresolve.specs.Cpu.{selected_cpu};
+ghost use Rattle.machresolve.specs.Runs.{IsRun};
+
 // The reports of programs.
 mod report;
 mod table;
@@ -19,11 +27,12 @@ mod lines;
 mod output;
 mod refusal;
 
-use crate::arguments::{DEFAULT_LIMIT, selected_cpu};
+use crate::arguments::{most_answered, selected_cpu};
 use crate::output::{NAME, run};
-use mach_cli::{Color, Cpu, Format, Misuse, Options, Program, Progress, SharedOnly};
+use mach_cli::{Call, Format, Misuse, Options, Program, Progress, SharedOnly};
 use mach_resolve::Given;
-use std::io::IsTerminal;
+use std::alloc::Global;
+use std::io::{BufWriter, IsTerminal, Write};
 use std::process::ExitCode;
 
 const PROGRAM: Program = Program {
@@ -62,12 +71,9 @@ fn main(rt: HostRuntime) -> ExitCode {
 fn start(rt: &HostRuntime) -> Result<u8, u8> {
     let words = PROGRAM.words(rt)?;
     let call = PROGRAM.call(rt, SharedOnly, &words)?;
-    let (wanted, limit) = (selected_cpu(call.cpu), call.limit.unwrap_or(DEFAULT_LIMIT));
     match call.words.as_slice() {
         [] => Err(PROGRAM.bad_usage(rt, Misuse::Missing("PROGRAM"))),
-        [program, libraries @ ..] => {
-            resolve_files(rt, wanted, limit, call.color, program, libraries)
-        }
+        [program, libraries @ ..] => resolve_files(rt, &call, program, libraries),
     }
 }
 
@@ -77,12 +83,10 @@ fn read(rt: &HostRuntime, progress: &mut Progress, file: &str) -> Result<Vec<u8>
     PROGRAM.read(rt, file)
 }
 
-// Resolves a program with its libraries.
+// Resolves a program of a call with its libraries.
 fn resolve_files(
     rt: &HostRuntime,
-    wanted: Option<Cpu>,
-    limit: usize,
-    color: Color,
+    call: &Call<'_, Global, SharedOnly>,
     program: &str,
     libraries: &[&str],
 ) -> Result<u8, u8> {
@@ -104,18 +108,30 @@ fn resolve_files(
             return Err(PROGRAM.out_of_memory(rt));
         }
     }
-    let mut out = PROGRAM.output(rt, color, Format::Text)?;
+    let mut out = PROGRAM.output(rt, call.color, Format::Text)?;
     let program = Given {
         path: program,
         bytes: bytes.as_slice(),
     };
-    Ok(run(
-        rt.alloc(),
-        wanted,
-        limit,
-        program,
-        given.as_slice(),
-        &mut out,
-        &mut rt.stderr(),
-    ))
+    let err = &mut rt.stderr();
+    Ok(resolve_given(rt, call, program, given.as_slice(), &mut out, err))
+}
+
+// Resolves a program with libraries, as a call says, and returns the exit status.
+fn resolve_given<'a, W: Write + Drop, E: Write>(
+    rt: &HostRuntime,
+    call: &Call<'_, Global, SharedOnly>,
+    program: Given<'a>,
+    libraries: &[Given<'a>],
+    out: &mut BufWriter<W>,
+    err: &mut E,
+) -> u8
+    ensures status { IsStatus result }
+    ensures runs { let most = most_items (limit_of call.now.limit 10000000) program.entry.bytes.now in
+        result ≤ 1 → IsRun (selected_cpu call.now.cpu) most (given_view program.entry) (map given_view libraries.now) result
+        (writer_contents W.contents out.old) (writer_contents W.contents out.new) (E.contents err.old) (E.contents err.new) }
+    ensures flushed { result ≤ 1 → writer_buffer out.new ≡ [] }
+{
+    let (wanted, limit) = (selected_cpu(call.cpu), most_answered(call.limit));
+    run(rt.alloc(), wanted, limit, program, libraries, out, err)
 }

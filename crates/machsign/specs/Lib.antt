@@ -14,3 +14,4 @@ pub mod Signatures
 pub mod ImageLines
 pub mod Entitlements
 pub mod JsonSignature
+pub mod Calls

@@ -7,11 +7,15 @@
 //! It does not check who signed: a CMS blob is not verified, and no other file is read.
 #![tactic(auto)]
 
-ghost use Rattle.std.specs.Prelude.{◌≡◌, ◌^◌, ◌-◌, codes, false, true, IfErr, IfOk};
-ghost use Rattle.mach_cli.specs.Bounds.{limit_of};
+ghost use Rattle.std.specs.Prelude.{◌≡◌, ◌≢◌, ℕ, List, [], codes, false, length, true, Err, IfErr, IfOk};
+ghost use Rattle.std.specs.Io.Buffered.{writer_contents};
+ghost use Rattle.std.specs.Io.KnownBytes.{Appends};
 ghost use Rattle.mach_cli.specs.Calls.{is_json};
+ghost use Rattle.mach_cli.specs.Names.{names_text};
 ghost use Rattle.mach_cli.specs.ShownCalls.{ShowsJson, ShowsText};
-ghost use Rattle.mach_cli.specs.Statuses.{IsUnwritten};
+ghost use Rattle.mach_cli.specs.Statuses.{IsStatus, IsUnwritten};
+ghost use Rattle.machsign.specs.Calls.{AreSignatureFiles, ShowsSignatureLines, ShowsSignatureObjects, WritesEntitlements};
+ghost use Rattle.machsign.specs.Entitlements.{SaysWhyNone};
 ghost use Rattle.machsign.specs.ImageLines.{AreImageSignatureLines};
 ghost use Rattle.machsign.specs.JsonSignature.{AreImageSignatureMembers};
 
@@ -37,7 +41,7 @@ mod text;
 use arguments::Entitlements;
 use entitlements::{NAME, run_entitlements};
 use json::SignatureObjects;
-use mach_cli::{Call, Cpu, ImageFiles, Misuse, Options, Others, Program, Titled};
+use mach_cli::{Call, ImageFiles, Misuse, Options, Others, Program, Titled};
 use signature_view::SignatureLines;
 use std::alloc::{Allocator, Global};
 use std::io;
@@ -79,35 +83,67 @@ fn start(rt: &HostRuntime) -> Result<u8, u8> {
 }
 
 // Runs a parsed call: writes entitlements, or shows each file.
-fn answer(rt: &HostRuntime, call: &Call<'_, Global, Entitlements>) -> Result<u8, u8> {
-    let (files, others) = (&call.words, &call.others);
+fn answer(rt: &HostRuntime, call: &Call<'_, Global, Entitlements>) -> Result<u8, u8>
+    ensures one_file { call.now.own.are_selected ≡ true → length call.now.words.items ≢ 1 → result ≡ Err 2 }
+{
     if call.own.are_selected {
-        return write_entitlements(rt, call.cpu, files);
+        return write_entitlements(rt, call);
     }
-    if files.is_empty() && others.is_empty() {
+    if call.words.is_empty() && call.others.is_empty() {
         return Err(PROGRAM.bad_usage(rt, Misuse::Missing("FILE")));
     }
     let mut out = PROGRAM.output(rt, call.color, call.format)?;
-    show_files(rt, &shown_by(call), files, others, &mut out)
+    show_call(rt, call, &mut out)
 }
 
-// Writes the entitlements of the first image of a file that has them, and returns the status.
-fn write_entitlements(rt: &HostRuntime, cpu: Cpu, files: &[&str]) -> Result<u8, u8> {
-    let [file] = files else {
+// Writes the entitlements of the first image of a call's one file that has them, and returns the status.
+fn write_entitlements(rt: &HostRuntime, call: &Call<'_, Global, Entitlements>) -> Result<u8, u8>
+    ensures one_file { length call.now.words.items ≢ 1 → result ≡ Err 2 }
+{
+    let [file] = call.words.as_slice() else {
         return Err(PROGRAM.bad_usage(rt, Misuse::Missing("single FILE")));
     };
     let Ok(mut out) = BufWriter::new(rt.alloc(), io::writer(rt)) else {
         return Err(PROGRAM.out_of_memory(rt));
     };
     let bytes = PROGRAM.read(rt, file)?;
-    Ok(run_entitlements(rt.alloc(), cpu, file, &bytes, &mut out, &mut rt.stderr()))
+    let err = &mut rt.stderr();
+    Ok(write_found(rt, call, file, &bytes, &mut out, err))
+}
+
+// Writes the entitlements of the first image for a call's cpu that has them, of a file with these bytes, and returns the status.
+fn write_found<W: Write + Drop, E: Write>(
+    rt: &HostRuntime,
+    call: &Call<'_, Global, Entitlements>,
+    file: &str,
+    bytes: &[u8],
+    out: &mut BufWriter<W>,
+    err: &mut E,
+) -> u8
+    ensures status { IsStatus result }
+    ensures written { result ≡ 0 → WritesEntitlements W.contents call.now.cpu bytes.now out.old out.new }
+    ensures nothing { result ≡ 1 → Appends (writer_contents W.contents out.old) (writer_contents W.contents out.new) [] }
+    ensures reported { result ≡ 1 → (said : List ℕ) × SaysWhyNone call.now.cpu (names_text (codes "machsign") file.now) bytes.now said
+        × Appends (E.contents err.old) (E.contents err.new) said }
+{
+    run_entitlements(rt.alloc(), call.cpu, file, bytes, out, err)
+}
+
+// Shows the signatures of all files that a call names, and returns the worst status.
+fn show_call<W: Write + Drop>(
+    rt: &HostRuntime,
+    call: &Call<'_, Global, Entitlements>,
+    out: &mut BufWriter<Titled<W>>,
+) -> Result<u8, u8>
+    ensures lines { is_json call.now.format ≡ false → IfOk result (ShowsSignatureLines W.contents call.now out.old out.new) }
+    ensures objects { is_json call.now.format ≡ true → IfOk result (ShowsSignatureObjects W.contents call.now out.old out.new) }
+{
+    show_files(rt, &shown_by(call), &call.words, &call.others, out)
 }
 
 // Returns how a call shows its files: the signatures of the selected images, as lines or as objects.
 fn shown_by(call: &Call<'_, Global, Entitlements>) -> ImageFiles<SignatureLines, SignatureObjects>
-    ensures call { (result.cpu ≡ call.now.cpu) × (result.limit ≡ limit_of call.now.limit (2 ^ 64 - 1)) × (result.is_json ≡ is_json call.now.format) }
-    ensures view { (result.lines ≡ record {}) × (result.objects ≡ record {}) }
-    ensures names { (result.program.name.now ≡ codes "machsign") × (result.has_titles ≡ true) }
+    ensures { AreSignatureFiles call.now result }
 {
     ImageFiles::of(PROGRAM, call, usize::MAX, SignatureLines, SignatureObjects)
 }

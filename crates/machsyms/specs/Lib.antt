@@ -10,3 +10,4 @@ pub mod JsonSymbols
 pub mod Listed
 pub mod ShortNames
 pub mod SymbolWords
+pub mod Calls

@@ -15,15 +15,14 @@
 //! - Files that `llvm-nm` refuses as malformed are printed if the library opens them.
 #![tactic(auto)]
 
-ghost use Rattle.std.specs.Prelude.{◌≡◌, ◌^◌, ◌-◌, codes, false, not, true, IfOk};
+ghost use Rattle.std.specs.Prelude.{◌≡◌, None, false, true, IfOk, IfSome};
 ghost use Rattle.mach_cli.specs.AddressLines.{AreAddressLines};
 ghost use Rattle.mach_cli.specs.AddressObjects.{AreAddressMembers};
-ghost use Rattle.mach_cli.specs.Bounds.{limit_of};
 ghost use Rattle.mach_cli.specs.Calls.{is_json};
 ghost use Rattle.mach_cli.specs.ShownCalls.{ShowsJson, ShowsNm};
+ghost use Rattle.machsyms.specs.Calls.{AreAddressFiles, AreSymbolFiles, ShowsLinesAt, ShowsObjectsAt, ShowsSymbolLines, ShowsSymbolObjects};
 ghost use Rattle.machsyms.specs.ImageLines.{AreSelectedLines};
 ghost use Rattle.machsyms.specs.JsonSymbols.{AreSelectedMembers};
-ghost use Rattle.machsyms.specs.LetterWords.{names_files};
 
 // Which symbols are selected and shown, and how.
 mod arguments;
@@ -109,26 +108,36 @@ fn start(rt: &HostRuntime) -> Result<u8, u8> {
 
 // Shows the selected symbols of files in order, and returns the worst status.
 fn show_files(rt: &HostRuntime, call: &Call<'_, Global, SymbolOptions>) -> Result<u8, u8> {
-    let (files, others) = (&call.words, &call.others);
-    if files.is_empty() && others.is_empty() {
+    if call.words.is_empty() && call.others.is_empty() {
         return Err(PROGRAM.bad_usage(rt, Misuse::Missing("FILE")));
     }
     let mut out = PROGRAM.output(rt, call.color, call.format)?;
+    show_call(rt, call, &mut out)
+}
+
+// Shows all files that a call names, by the address or by the letters that it has, and returns the worst status.
+fn show_call<W: Write + Drop>(
+    rt: &HostRuntime,
+    call: &Call<'_, Global, SymbolOptions>,
+    out: &mut BufWriter<Titled<W>>,
+) -> Result<u8, u8>
+    ensures lines { call.now.address ≡ None → is_json call.now.format ≡ false → IfOk result (ShowsSymbolLines W.contents call.now out.old out.new) }
+    ensures objects { call.now.address ≡ None → is_json call.now.format ≡ true → IfOk result (ShowsSymbolObjects W.contents call.now out.old out.new) }
+    ensures lines_at { is_json call.now.format ≡ false → IfSome call.now.address (λ address.
+        IfOk result (ShowsLinesAt W.contents call.now address out.old out.new)) }
+    ensures objects_at { is_json call.now.format ≡ true → IfSome call.now.address (λ address.
+        IfOk result (ShowsObjectsAt W.contents call.now address out.old out.new)) }
+{
+    let (files, others) = (&call.words, &call.others);
     match call.address {
-        Some(address) => show_at(rt, &shown_at(call, address), files, others, &mut out),
-        None => show(rt, &shown_by(call), files, others, &mut out),
+        Some(address) => show_at(rt, &shown_at(call, address), files, others, out),
+        None => show(rt, &shown_by(call), files, others, out),
     }
 }
 
 // Returns how a call shows its files: the symbols that letters select, as lines or as objects.
 fn shown_by(call: &Call<'_, Global, SymbolOptions>) -> ImageFiles<SymbolLinesOf, SymbolObjectsOf>
-    ensures program { result.program.name.now ≡ codes "machsyms" }
-    ensures cpu { result.cpu ≡ call.now.cpu }
-    ensures limit { result.limit ≡ limit_of call.now.limit (2 ^ 64 - 1) }
-    ensures form { result.is_json ≡ is_json call.now.format }
-    ensures titles { result.has_titles ≡ not (names_files call.now.own.letters) }
-    ensures lines { let o = call.now.own in result.lines ≡ record { letters = o.letters; is_raw = o.is_raw } }
-    ensures objects { let o = call.now.own in result.objects ≡ record { letters = o.letters; is_raw = o.is_raw } }
+    ensures { AreSymbolFiles call.now result }
 {
     let SymbolOptions { letters, is_raw } = call.own;
     let lines = SymbolLinesOf { letters, is_raw };
@@ -144,12 +153,7 @@ fn shown_at(
     call: &Call<'_, Global, SymbolOptions>,
     address: u64,
 ) -> ImageFiles<AddressLinesOf, AddressObjectsOf>
-    ensures program { result.program.name.now ≡ codes "machsyms" }
-    ensures cpu { result.cpu ≡ call.now.cpu }
-    ensures form { result.is_json ≡ is_json call.now.format }
-    ensures titles { result.has_titles ≡ not (names_files call.now.own.letters) }
-    ensures lines { let o = call.now.own in result.lines ≡ record { address = address; has_file = names_files o.letters; is_raw = o.is_raw } }
-    ensures objects { result.objects ≡ record { address = address } }
+    ensures { AreAddressFiles call.now address result }
 {
     let SymbolOptions { letters, is_raw } = call.own;
     let has_file = names_files(letters);

@@ -126,8 +126,7 @@ fn print_object<L: Listing, O: Write>(
     ensures { IfOk result (λ whole. (whole ≡ is_ok answer.now) × Appends (O.contents out.old) (O.contents out.new)
         (comma_before is_first ++ row_object (text_answer L.text answer.now))) }
 {
-    let comma = comma_before(is_first);
-    write!(out, "{comma}")?;
+    out.write_all(comma_before(is_first).as_bytes())?;
     match answer {
         Ok(row) => {
             L::write_row(row, out)?;

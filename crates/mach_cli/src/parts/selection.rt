@@ -3,9 +3,11 @@
 ghost use Rattle.std.specs.Prelude.{◌≡◌};
 ghost use Rattle.std.specs.Iterator.{YieldsFirstBy};
 ghost use Rattle.goblin_mach.specs.ItemsLeft.{input_item_read};
+ghost use Rattle.mach_cli.specs.Bounds.{most_images};
 ghost use Rattle.mach_cli.specs.Selected.{are_missed, are_more, is_part_for, parts_within, selected_parts_left, within_left};
 ghost use Rattle.mach_cli.specs.PartsOf.{parts_left};
 
+use crate::bounds::most_images;
 use crate::cpu::Cpu;
 use crate::parts::Parts;
 use goblin_mach::{InputItem, ItemPlace};
@@ -61,13 +63,13 @@ pub struct SelectedParts<'a> {
 }
 
 impl<'a> SelectedParts<'a> {
-    /// Returns the first of these parts that are selected.
+    /// Returns the first of these parts that are selected, as many as so many lines allow.
     pub fn of(limit: usize, cpu: Cpu, parts: Parts<'a>) -> Self
-        ensures { within_left result ≡ parts_within limit cpu (parts_left parts.entry) }
+        ensures { within_left result ≡ parts_within (most_images limit) cpu (parts_left parts.entry) }
     {
         SelectedParts {
             cpu,
-            room: limit,
+            room: most_images(limit),
             parts,
         }
     }

@@ -6,12 +6,12 @@ use Rattle.mach_cli.proofs.Showing.{fat_input}
 use Rattle.mach_cli.proofs.document.open.Goals as goal
 
 pub returns-in_err-file-clause-refused : goal.returns-in_err-file-clause-refused
-returns-in_err-file-clause-refused g c =
-    let p = err_from_is_err_and c.from_residual-in_err-file.result c.from_residual-in_err-file.ensures.1 in
+returns-in_err-file-clause-refused c =
+    let p = err_from_is_err_and c.from_residual.result c.from_residual.ensures.1 in
     rw (p.1, p.2) (ErrorMeets-in _ (ViewFault c.args.bytes.now) c.in_err-file.field-0.0 of_file c.in_err-file.ensures.refused)
 
 pub returns-in_err-records-in-Fat-clause-refused : goal.returns-in_err-records-in-Fat-clause-refused
-returns-in_err-records-in-Fat-clause-refused g c =
+returns-in_err-records-in-Fat-clause-refused c =
     let container = c.in-Fat.container in
     let file = file_view container in
     let fat = rw c.in-Fat.is at c.in_ok-file.ensures.opened in
@@ -20,7 +20,7 @@ returns-in_err-records-in-Fat-clause-refused g c =
     (λ f bad. of_table file f fat.magic fat.file bad) c.in_err-records-in-Fat.ensures)
 
 pub returns-in_ok-records-in-Fat-clause-held : goal.returns-in_ok-records-in-Fat-clause-held
-returns-in_ok-records-in-Fat-clause-held g c =
+returns-in_ok-records-in-Fat-clause-held c =
     let bytes = c.args.bytes.now in
     let container = c.in-Fat.container in
     let fat = rw c.in-Fat.is at c.in_ok-file.ensures.opened in (

@@ -22,15 +22,15 @@ pub returns-clause-faulty : goal.returns-clause-faulty
 returns-clause-faulty g c = λ one.
     status_faulty (verdict_of_report c.in-Ok.report) c.in-Ok.ensures.judged (rw (c.status.ensures, c.verdict.ensures) at one)
 
-pub returns-clause-quiet : goal.returns-clause-quiet
-returns-clause-quiet g c = λ quiet.
-    let v = verdict_of_report c.in-Ok.report in (
-      v,
-      c.status.ensures ∙ ap status_of c.verdict.ensures,
-      c.in-Ok.ensures.judged,
-      one_line c.args.call.name.now v,
-      c.in_ok-write_report.ensures.quiet quiet,
-    )
+pub returns-clause-audited : goal.returns-clause-audited
+returns-clause-audited g c = let v = verdict_of_report c.in-Ok.report in record {
+  verdict = v;
+  is_status = c.status.ensures ∙ ap status_of c.verdict.ensures;
+  judges = c.in-Ok.ensures.judged;
+  one_line = one_line c.args.call.name.now v;
+  quiet = c.in_ok-write_report.ensures.quiet;
+  flushed = c.in_ok-write_report.ensures.flushed;
+}
 
 pub returns-clause-message : goal.returns-clause-message
 returns-clause-message g c = record {

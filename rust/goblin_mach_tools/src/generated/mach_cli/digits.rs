@@ -47,6 +47,14 @@ pub fn print_decimal<O: Write>(number: u64, out: &mut O) -> io::Result<()> {
     out.write_all(&text[start..])
 }
 
+/// Prints a number that may be negative, in decimal.
+pub(crate) fn print_signed<O: Write>(number: i128, out: &mut O) -> io::Result<()> {
+    match u64::try_from(number) {
+        Ok(magnitude) => print_decimal(magnitude, out),
+        Err(_) => write!(out, "{number}"),
+    }
+}
+
 /// Prints a number in hexadecimal, after `0x`.
 ///
 /// <details><summary>Proved</summary>

@@ -2,18 +2,19 @@
 //! Shows a file: its one image, or the items of a fat file in order.
 #![forbid(unsafe_code)]
 
+use crate::shim::rt::HostRuntime;
 use alloc::vec::Vec;
 
-use crate::generated::mach_cli::bounds::most_images;
 use crate::generated::mach_cli::cpu::Cpu;
 use crate::generated::mach_cli::entries::{archs_left_out, archs_shown, outside_at};
 use crate::generated::mach_cli::failure::ShowFailure;
 use crate::generated::mach_cli::image_view::{ImageView, Outcome};
 use crate::generated::mach_cli::label::Label;
 use crate::generated::mach_cli::names::Names;
+use crate::generated::mach_cli::omitted::Omitted;
 use crate::generated::mach_cli::output::failed;
 use crate::generated::mach_cli::parts::Parts;
-use crate::generated::mach_cli::parts::selection::{SelectedParts, are_more};
+use crate::generated::mach_cli::parts::selection::SelectedParts;
 use crate::generated::mach_cli::refusal::{Refusal, complain, refusal_of, refusal_of_content};
 use crate::generated::mach_cli::sink::Sink;
 use crate::shim::io;
@@ -23,7 +24,8 @@ use goblin_mach::{Content, Images, Input, InputItem, Mach, MachO, Result, descri
 
 /// How a file is shown: what of its images a view prints, and how a sink puts this together.
 #[derive(Clone, Copy)]
-pub struct Document<'a, V, K> {
+pub(crate) struct Document<'a, V, K> {
+    pub rt: &'a HostRuntime,
     /// The names of the program and of the file.
     pub names: Names<'a>,
     /// The cpu whose images are selected.
@@ -57,11 +59,6 @@ fn open<'a>(bytes: &'a [u8]) -> Result<Subject<'a>> {
     }
 }
 
-// Opens the image in the content of an item.
-fn open_content<'a>(content: Content<'a>) -> Result<MachO<'a>> {
-    content.open()
-}
-
 impl<V: ImageView, K: Sink> Document<'_, V, K> {
     /// Shows the selected images of the file, and returns the exit status:
     /// - 0 if nothing was refused and each image is whole;
@@ -73,13 +70,13 @@ impl<V: ImageView, K: Sink> Document<'_, V, K> {
     /// <details><summary>Proved</summary>
     ///
     /// - *status*: `IsStatus result`
-    /// - *shown*: if `let d = self in let file = d.names.file in result ≤ 1`, there is `shown : Shown` with: `ShowsFile K.texts (names_text d.names.program file) (V.lines d.view file d.limit) d.cpu file d.limit bytes shown × (result ≡ status_by shown.whole) × Writes shown (writer_contents W.contents out.old) (writer_contents W.contents out.new) (E.contents err.old) (E.contents err.new)`
+    /// - *shown*: if `let d = self in result ≤ 1`, there is `shown : Shown` with: `ShowsFile (way_in K.texts V.lines d) d.cpu d.limit bytes shown × (result ≡ status_by shown.whole) × Appends (writer_contents W.contents out.old) (writer_contents W.contents out.new) shown.text × Appends (E.contents err.old) (E.contents err.new) shown.message`
     /// - *flushed*: if `result ≤ 1`, `writer_buffer out.new ≡ []`
     ///
     /// </details>
     pub fn run<W: Write, E: Write>(&self, bytes: &[u8], out: &mut BufWriter<W>, err: &mut E) -> u8 {
         match self.show_all(bytes, out, err) {
-            Ok(whole) => status(whole),
+            Ok(outcome) => status(outcome.whole),
             Err(error) => failed(self.names.program, "", error, err),
         }
     }
@@ -90,14 +87,20 @@ impl<V: ImageView, K: Sink> Document<'_, V, K> {
         bytes: &[u8],
         out: &mut BufWriter<W>,
         err: &mut E,
-    ) -> io::Result<bool> {
-        let whole = self.show(bytes, out, err)?;
+    ) -> io::Result<Outcome> {
+        let outcome = self.show(bytes, out, err)?;
         out.flush()?;
-        Ok(whole)
+        Ok(outcome)
     }
 
-    // Shows the file, and returns whether nothing was refused and each image is whole.
-    fn show<O: Write, E: Write>(&self, bytes: &[u8], out: &mut O, err: &mut E) -> io::Result<bool> {
+    // Shows the file.
+    fn show<O: Write, E: Write>(
+        &self,
+        bytes: &[u8],
+        out: &mut O,
+        err: &mut E,
+    ) -> io::Result<Outcome> {
+        let rt = self.rt;
         match open(bytes) {
             Ok(Subject::Image(image)) => self.show_one(&image, out, err),
             Ok(Subject::Fat(images, records)) => {
@@ -113,17 +116,16 @@ impl<V: ImageView, K: Sink> Document<'_, V, K> {
         image: &MachO<'_>,
         out: &mut O,
         err: &mut E,
-    ) -> io::Result<bool> {
-        if !self
-            .cpu
-            .takes(image.header.cputype, image.header.cpusubtype)
-        {
+    ) -> io::Result<Outcome> {
+        let header = image.header;
+        if !self.cpu.takes(header.cputype, header.cpusubtype) {
             return self.refuse(Refusal::OtherImage(self.cpu), out, err);
         }
         self.sink.begin_file(0, out)?;
+        self.begin(true, Label::None, out)?;
         let outcome = self.show_image(Label::None, image, self.limit, out, err)?;
         self.sink.end_file(false, "image", self.names.file, out)?;
-        Ok(outcome.whole)
+        Ok(outcome)
     }
 
     // Shows a fat file with these items and records, if one of its entries is selected.
@@ -134,102 +136,82 @@ impl<V: ImageView, K: Sink> Document<'_, V, K> {
         records: &[FatArch],
         out: &mut O,
         err: &mut E,
-    ) -> io::Result<bool> {
+    ) -> io::Result<Outcome> {
         if self.cpu.misses(records) {
             return self.refuse(Refusal::NoEntry(self.cpu), out, err);
         }
-        let most = archs_shown(bytes, records);
+        let parts = Parts::within(images, archs_shown(bytes, records));
         let left_out = archs_left_out(bytes, records);
-        let parts = Parts::within(images, most);
-        let count = most_images(self.limit);
-        let first = SelectedParts::of(count, self.cpu, parts);
-        let is_cut = are_more(count, self.cpu, parts);
+        let omitted = Omitted::of(self.limit, self.cpu, parts, left_out);
+        let items = SelectedParts::of(self.limit, self.cpu, parts);
         self.sink.begin_file(left_out, out)?;
-        let whole = self.show_items(bytes, first, out, err)?;
+        let outcome = self.show_items(bytes, items, out, err)?;
         self.sink
-            .end_file(is_cut, "fat file", self.names.file, out)?;
-        self.cut(is_cut, err)?;
-        self.leave_out(left_out, err)?;
-        Ok(whole & (!is_cut & (left_out == 0)))
+            .end_file(omitted.is_cut, "fat file", self.names.file, out)?;
+        omitted.report(self.names, err)?;
+        Ok(Outcome {
+            whole: outcome.whole & omitted.is_nothing(),
+            left: outcome.left,
+        })
     }
 
-    // Reports that more items are selected than the limit allows, if so.
-    fn cut<E: Write>(&self, is_cut: bool, err: &mut E) -> io::Result<()> {
-        if !is_cut {
-            return Ok(());
-        }
-        let count = most_images(self.limit);
-        complain(self.names, Label::None, Refusal::Limit(count), err)
-    }
-
-    // Reports how many entries are left out, if there are some.
-    fn leave_out<E: Write>(&self, count: usize, err: &mut E) -> io::Result<()> {
-        if count == 0 {
-            return Ok(());
-        }
-        complain(self.names, Label::None, Refusal::LeftOut(count), err)
-    }
-
-    // Shows these items of a file, and returns whether none is refused and each is whole.
+    // Shows these items of a file.
     fn show_items<O: Write, E: Write>(
         &self,
         bytes: &[u8],
         items: SelectedParts<'_>,
         out: &mut O,
         err: &mut E,
-    ) -> io::Result<bool> {
+    ) -> io::Result<Outcome> {
         let mut whole = true;
         let mut left = self.limit;
         let mut is_first = true;
         for item in items {
-            self.separate(is_first, out)?;
-            let outcome = self.show_placed(bytes, item, left, out, err)?;
+            let label = Label::of(&item);
+            self.begin(is_first, label, out)?;
+            let outcome = self.show_placed(bytes, label, item, left, out, err)?;
             is_first = false;
             whole &= outcome.whole;
             left = outcome.left;
         }
-        Ok(whole)
+        Ok(Outcome { whole, left })
     }
 
-    // Shows an item of a file under its label, or reports that it is out of the file.
+    // Begins an image with this label, apart from those before it.
+    fn begin<O: Write>(&self, is_first: bool, label: Label<'_>, out: &mut O) -> io::Result<()> {
+        if !is_first {
+            self.sink.separate(out)?;
+        }
+        self.sink.begin_image(self.names.file, label, out)
+    }
+
+    // Shows an item of a file, which is begun under this label, or reports that it is out of the file.
     fn show_placed<O: Write, E: Write>(
         &self,
         bytes: &[u8],
+        label: Label<'_>,
         item: InputItem<'_>,
         left: usize,
         out: &mut O,
         err: &mut E,
     ) -> io::Result<Outcome> {
         match outside_at::<FatArch>(bytes, item.place.entry) {
-            None => self.show_item(item, left, out, err),
-            Some(outside) => {
-                let named = Label::of(&item);
-                self.refuse_image(named, Refusal::OutOfFile(outside), left, out, err)
-            }
+            None => self.show_item(label, item, left, out, err),
+            Some(outside) => self.refuse_image(label, Refusal::OutOfFile(outside), left, out, err),
         }
     }
 
-    // Writes what is between two images, before one that isn't the first.
-    fn separate<O: Write>(&self, is_first: bool, out: &mut O) -> io::Result<()> {
-        if is_first {
-            Ok(())
-        } else {
-            self.sink.separate(out)
-        }
-    }
-
-    // Shows an item under its label, and returns whether it is whole, and how many lines are left.
+    // Shows an item that is begun under this label.
     fn show_item<O: Write, E: Write>(
         &self,
+        label: Label<'_>,
         item: InputItem<'_>,
         left: usize,
         out: &mut O,
         err: &mut E,
     ) -> io::Result<Outcome> {
-        let label = Label::of(&item);
         match item.content {
             Ok(Content::NoMember) => {
-                self.sink.begin_image(self.names.file, label, out)?;
                 self.sink.end_archive(out)?;
                 Ok(Outcome { whole: true, left })
             }
@@ -246,7 +228,7 @@ impl<V: ImageView, K: Sink> Document<'_, V, K> {
         }
     }
 
-    // Shows the image in the content of an item, under its label.
+    // Shows the image in the content of an item that is begun under this label.
     fn show_content<O: Write, E: Write>(
         &self,
         label: Label<'_>,
@@ -255,7 +237,8 @@ impl<V: ImageView, K: Sink> Document<'_, V, K> {
         out: &mut O,
         err: &mut E,
     ) -> io::Result<Outcome> {
-        match open_content(content) {
+        let rt = self.rt;
+        match content.open() {
             Ok(image) => self.show_image(label, &image, left, out, err),
             Err(error) => {
                 let refusal = refusal_of_content(content, &error);
@@ -264,7 +247,7 @@ impl<V: ImageView, K: Sink> Document<'_, V, K> {
         }
     }
 
-    // Shows an image under its label, and returns whether it is whole, and how many lines are left.
+    // Shows an image that is begun under this label.
     fn show_image<O: Write, E: Write>(
         &self,
         label: Label<'_>,
@@ -273,35 +256,21 @@ impl<V: ImageView, K: Sink> Document<'_, V, K> {
         out: &mut O,
         err: &mut E,
     ) -> io::Result<Outcome> {
-        self.sink.begin_image(self.names.file, label, out)?;
-        match self
-            .view
-            .show(self.names.file, image, self.limit, left, out)
-        {
+        let Document {
+            rt, names, limit, ..
+        } = *self;
+        match self.view.show(names.file, image, limit, left, out) {
             Ok(outcome) => {
                 self.sink.end_image(out)?;
                 Ok(outcome)
             }
-            Err(ShowFailure::Memory) => self.end_refused(label, Refusal::Memory, left, out, err),
+            Err(ShowFailure::Memory) => self.refuse_image(label, Refusal::Memory, left, out, err),
             Err(ShowFailure::Unwritten(error)) => Err(error),
         }
     }
 
-    // Writes under a label why what it names isn't shown, and reports it.
-    fn refuse_image<O: Write, E: Write>(
-        &self,
-        label: Label<'_>,
-        refusal: Refusal<'_>,
-        left: usize,
-        out: &mut O,
-        err: &mut E,
-    ) -> io::Result<Outcome> {
-        self.sink.begin_image(self.names.file, label, out)?;
-        self.end_refused(label, refusal, left, out, err)
-    }
-
     // Writes, in place of an image's output, why it isn't shown, and reports it.
-    fn end_refused<O: Write, E: Write>(
+    fn refuse_image<O: Write, E: Write>(
         &self,
         label: Label<'_>,
         refusal: Refusal<'_>,
@@ -314,20 +283,23 @@ impl<V: ImageView, K: Sink> Document<'_, V, K> {
         Ok(Outcome { whole: false, left })
     }
 
-    // Writes why nothing is shown of the file, and reports it; so it is not whole.
+    // Writes why nothing is shown of the file, and reports it.
     fn refuse<O: Write, E: Write>(
         &self,
         refusal: Refusal<'_>,
         out: &mut O,
         err: &mut E,
-    ) -> io::Result<bool> {
+    ) -> io::Result<Outcome> {
         self.sink.refuse_file(self.names.file, refusal, out)?;
         complain(self.names, Label::None, refusal, err)?;
-        Ok(false)
+        Ok(Outcome {
+            whole: false,
+            left: self.limit,
+        })
     }
 }
 
-// Returns the status of a complete output, by whether it is whole.
-fn status(whole: bool) -> u8 {
+/// Returns the status of a complete output, by whether it is whole.
+pub(crate) fn status(whole: bool) -> u8 {
     if whole { 0 } else { 1 }
 }

@@ -3,6 +3,7 @@
 #![forbid(unsafe_code)]
 
 use crate::generated::mach_cli::digits::digit;
+use crate::generated::mach_cli::spaces::print_spaces;
 use crate::shim::io;
 use crate::shim::io::Write;
 use core::fmt;
@@ -290,6 +291,25 @@ pub(crate) fn print_written<O: Write>(style: Style, text: &str, out: &mut O) -> 
 /// </details>
 pub fn print_escaped<O: Write>(name: &str, out: &mut O) -> io::Result<()> {
     print_written(Style::Name, name, out)
+}
+
+// Returns how many characters a text has.
+fn char_len(text: &str) -> usize {
+    text.chars().count()
+}
+
+// Prints a name on one line, and spaces after it up to so many characters. A name of visible ASCII has as many as bytes.
+pub(crate) fn print_wide_escaped<O: Write>(
+    name: &str,
+    width: usize,
+    out: &mut O,
+) -> io::Result<()> {
+    if are_visible(Style::Name, name.as_bytes()) {
+        out.write_all(name.as_bytes())?;
+        return print_spaces(width.saturating_sub(name.len()), out);
+    }
+    print_escaped(name, out)?;
+    print_spaces(width.saturating_sub(char_len(name)), out)
 }
 
 /// Prints bytes, two digits each.

@@ -3,20 +3,20 @@
 #![forbid(unsafe_code)]
 
 use crate::generated::mach_cli::digits::{
-    print_decimal, print_hexadecimal, print_wide_hexadecimal,
+    print_decimal, print_hexadecimal, print_signed, print_wide_hexadecimal,
 };
-use crate::generated::mach_cli::escaped::print_escaped;
+use crate::generated::mach_cli::escaped::{print_escaped, print_wide_escaped};
 use crate::generated::mach_cli::json::text::print_string;
-use crate::generated::mach_cli::record_fields::{
-    RecordFields, print_record_members, print_record_pairs,
-};
-use crate::generated::mach_cli::spaces::print_spaces;
 use crate::shim::io;
 use crate::shim::io::Write;
 use core::fmt;
 use core::fmt::{Display, Formatter};
 use goblin_mach::chained_fixups::PointerAuth;
 use goblin_mach::names::{SourceVersionText, UuidText, VersionText};
+
+mod spans;
+
+use self::spans::{Spans, fields_in, spans_of};
 
 /// The value of a field.
 #[derive(Clone, Copy)]
@@ -206,7 +206,7 @@ impl Display for FlagsText {
 fn print_value<O: Write>(value: Value<'_>, out: &mut O) -> io::Result<()> {
     match value {
         Value::Number(number) => print_decimal(number, out),
-        Value::Signed(number) => write!(out, "{number}"),
+        Value::Signed(number) => print_signed(number, out),
         Value::Hex(number) => print_hexadecimal(number, out),
         Value::Named(number, "") => print_decimal(number, out),
         Value::Named(_, name) => print_escaped(name, out),
@@ -241,20 +241,12 @@ fn print_value<O: Write>(value: Value<'_>, out: &mut O) -> io::Result<()> {
     }
 }
 
-// Returns how many characters a text has.
-fn char_len(text: &str) -> usize {
-    text.chars().count()
-}
-
 // Prints a value as a column of at least so many characters has it.
 fn print_wide<O: Write>(value: Value<'_>, width: usize, out: &mut O) -> io::Result<()> {
     match value {
         Value::Number(number) => write!(out, "{number:>width$}"),
         Value::Hex(number) => print_wide_hexadecimal(number, width, out),
-        Value::Text(text) => {
-            print_escaped(text, out)?;
-            print_spaces(width.saturating_sub(char_len(text)), out)
-        }
+        Value::Text(text) => print_wide_escaped(text, width, out),
         value => print_value(value, out),
     }
 }
@@ -263,7 +255,7 @@ fn print_wide<O: Write>(value: Value<'_>, width: usize, out: &mut O) -> io::Resu
 fn print_in_object<O: Write>(value: Value<'_>, out: &mut O) -> io::Result<()> {
     match value {
         Value::Number(number) => print_decimal(number, out),
-        Value::Signed(number) => write!(out, "{number}"),
+        Value::Signed(number) => print_signed(number, out),
         Value::Hex(number) => print_decimal(number, out),
         Value::Named(number, _) => print_decimal(number, out),
         Value::Text(text) => print_string(text, out),
@@ -312,20 +304,6 @@ pub trait FieldsForm {
         others: &[Field<'_>],
         out: &mut O,
     ) -> io::Result<()>;
-
-    /// Writes an item with a first field, these, and those of a load command's record after them.
-    ///
-    /// <details><summary>Proved</summary>
-    ///
-    /// - if `Ok`: `Appends (O.contents out.old) (O.contents out.new) (fields_text (field_view first ∷ (map field_view fields ++ map named_value (shown_left shown.entry))))`
-    ///
-    /// </details>
-    fn write_record<O: Write>(
-        first: &Field<'_>,
-        fields: &[Field<'_>],
-        shown: RecordFields<'_>,
-        out: &mut O,
-    ) -> io::Result<()>;
 }
 
 /// A line: the fields in the order of their columns, a space between two.
@@ -339,15 +317,6 @@ impl FieldsForm for Line {
         out: &mut O,
     ) -> io::Result<()> {
         print_columns(fields, others, &COLUMNS, out)
-    }
-
-    fn write_record<O: Write>(
-        first: &Field<'_>,
-        fields: &[Field<'_>],
-        _shown: RecordFields<'_>,
-        out: &mut O,
-    ) -> io::Result<()> {
-        print_columns(&[*first], fields, &COLUMNS, out)
     }
 }
 
@@ -364,16 +333,6 @@ impl FieldsForm for Pairs {
         print_columns(fields, others, &COLUMNS, out)?;
         print_pairs(fields, out)?;
         print_pairs(others, out)
-    }
-
-    fn write_record<O: Write>(
-        first: &Field<'_>,
-        fields: &[Field<'_>],
-        shown: RecordFields<'_>,
-        out: &mut O,
-    ) -> io::Result<()> {
-        Pairs::write_both(&[*first], fields, out)?;
-        print_record_pairs(shown, out)
     }
 }
 
@@ -393,20 +352,9 @@ impl FieldsForm for Object {
                 print_others(others, out)?;
             }
             ([], [first, next @ ..]) => print_opened(first, next, out)?,
-            ([], []) => write!(out, "{{")?,
+            ([], []) => out.write_all(b"{")?,
         }
-        write!(out, "}}")
-    }
-
-    fn write_record<O: Write>(
-        first: &Field<'_>,
-        fields: &[Field<'_>],
-        shown: RecordFields<'_>,
-        out: &mut O,
-    ) -> io::Result<()> {
-        print_opened(first, fields, out)?;
-        print_record_members(shown, out)?;
-        write!(out, "}}")
+        out.write_all(b"}")
     }
 }
 
@@ -420,14 +368,28 @@ fn print_columns<O: Write>(
     columns: &[usize],
     out: &mut O,
 ) -> io::Result<()> {
+    let spans = spans_of(fields);
+    let other_spans = spans_of(others);
     for column in columns {
-        print_column(fields, *column, out)?;
-        print_column(others, *column, out)?;
+        print_column_in(&spans, fields, *column, out)?;
+        print_column_in(&other_spans, others, *column, out)?;
     }
     Ok(())
 }
 
+// Prints the fields of a column, given where they are, after a space unless it is the first.
+#[inline(always)]
+fn print_column_in<O: Write>(
+    spans: &Spans,
+    fields: &[Field<'_>],
+    column: usize,
+    out: &mut O,
+) -> io::Result<()> {
+    print_column(fields_in(spans, fields, column), column, out)
+}
+
 // Prints the fields of a column, after a space unless it is the first.
+#[inline(always)]
 fn print_column<O: Write>(fields: &[Field<'_>], column: usize, out: &mut O) -> io::Result<()> {
     for field in fields {
         print_field(field, column, out)?;
@@ -454,14 +416,8 @@ fn print_pairs<O: Write>(fields: &[Field<'_>], out: &mut O) -> io::Result<()> {
     Ok(())
 }
 
-/// Prints a field after its name, if it has no column.
-///
-/// <details><summary>Proved</summary>
-///
-/// - if `Ok`: `Appends (O.contents out.old) (O.contents out.new) (pair_field (field_view field))`
-///
-/// </details>
-pub fn print_pair<O: Write>(field: &Field<'_>, out: &mut O) -> io::Result<()> {
+// Prints a field after its name, if it has no column.
+fn print_pair<O: Write>(field: &Field<'_>, out: &mut O) -> io::Result<()> {
     if field.column != 0 || field.name.is_empty() {
         return Ok(());
     }
@@ -473,7 +429,7 @@ pub fn print_pair<O: Write>(field: &Field<'_>, out: &mut O) -> io::Result<()> {
 
 // Prints the opening brace of an object, a first field as a member, and the next ones.
 fn print_opened<O: Write>(first: &Field<'_>, next: &[Field<'_>], out: &mut O) -> io::Result<()> {
-    write!(out, "{{")?;
+    out.write_all(b"{")?;
     print_member(first, out)?;
     print_others(next, out)
 }
@@ -486,18 +442,12 @@ fn print_member<O: Write>(field: &Field<'_>, out: &mut O) -> io::Result<()> {
     print_in_object(field.value, out)
 }
 
-/// Prints a field as a member after a comma, if it has a name.
-///
-/// <details><summary>Proved</summary>
-///
-/// - if `Ok`: `Appends (O.contents out.old) (O.contents out.new) (comma_member (field_view field))`
-///
-/// </details>
-pub fn print_next_member<O: Write>(field: &Field<'_>, out: &mut O) -> io::Result<()> {
+// Prints a field as a member after a comma, if it has a name.
+fn print_next_member<O: Write>(field: &Field<'_>, out: &mut O) -> io::Result<()> {
     if field.name.is_empty() {
         return Ok(());
     }
-    write!(out, ",")?;
+    out.write_all(b",")?;
     print_member(field, out)
 }
 

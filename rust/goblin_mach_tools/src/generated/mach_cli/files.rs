@@ -5,14 +5,15 @@
 use crate::shim::rt::Eprint;
 use crate::shim::rt::HostRuntime;
 
-use crate::generated::mach_cli::bounds::most_images;
 use crate::generated::mach_cli::cpu::Cpu;
+use crate::generated::mach_cli::document::status;
 use crate::generated::mach_cli::entries::outside_at;
 use crate::generated::mach_cli::first_bytes::begins_fat;
 use crate::generated::mach_cli::label::Label;
 use crate::generated::mach_cli::named::{Others, names_of};
 use crate::generated::mach_cli::names::Names;
-use crate::generated::mach_cli::parts::selection::{SelectedParts, are_more, is_missed};
+use crate::generated::mach_cli::omitted::Omitted;
+use crate::generated::mach_cli::parts::selection::{SelectedParts, is_missed};
 use crate::generated::mach_cli::parts::shown::{ShownPart, shown_part};
 use crate::generated::mach_cli::parts::{parts_left_out, parts_of};
 use crate::generated::mach_cli::program::Program;
@@ -22,6 +23,7 @@ use crate::generated::mach_cli::title::{Title, title_of};
 use crate::generated::mach_cli::titled::{Titled, put_title};
 use crate::generated::mach_cli::word::NoText;
 use crate::shim::io::{BufWriter, IsTerminal, Write};
+use core::marker::PhantomData;
 use core::str;
 use goblin_mach::AllocError;
 use goblin_mach::FatArch64;
@@ -56,14 +58,21 @@ pub struct Files {
     pub limit: usize,
 }
 
-// A call over files.
+// The standard output of a call.
+type Out<W, B> = BufWriter<Titled<W>, B>;
+
+// A run over the files of a call.
 #[derive(Clone, Copy)]
-struct Running {
+struct Run<'r, S, W, B> {
+    rt: &'r HostRuntime,
     files: Files,
     // Whether there may be several files.
     are_several: bool,
     // Whether titles are those of `llvm-nm`.
     is_nm: bool,
+    // What is shown of each.
+    shows: &'r S,
+    out: PhantomData<(W, B)>,
 }
 
 // Returns the status of a file that is shown. After a failed write nothing else is shown: its status is an error.
@@ -130,280 +139,207 @@ impl Files {
         others: &Others<'_>,
         out: &mut BufWriter<Titled<W>>,
     ) -> Result<u8, u8> {
-        let call = Running {
+        let run = Run {
+            rt,
             files: *self,
             are_several: others.are_several(files.len()),
             is_nm,
+            shows,
+            out: PhantomData,
         };
         let mut progress = Progress::new(rt, rt.stderr().is_terminal());
-        let of_words = call.refuse_words(rt, others.no_texts.as_slice());
-        let of_files = call.show_files(rt, shows, &mut progress, files, out)?;
+        let of_words = run.refuse_words(others.no_texts.as_slice());
+        let of_files = run.show_files(&mut progress, files, out)?;
         let (lists, end) = (others.lists.as_slice(), others.name_end());
-        let of_lists = call.show_lists(rt, shows, &mut progress, lists, end, out)?;
+        let of_lists = run.show_lists(&mut progress, lists, end, out)?;
         Ok(worse(worse(of_words, of_files), of_lists))
     }
 }
 
-impl Running {
+impl<S: FileView<BufWriter<Titled<W>>>, W: Write> Run<'_, S, W> {
     // Shows files in order, and returns the worst status.
-    fn show_files<S: FileView<BufWriter<Titled<W>>>, W: Write>(
+    fn show_files(
         &self,
-        rt: &HostRuntime,
-        shows: &S,
         progress: &mut Progress,
         files: &[&str],
-        out: &mut BufWriter<Titled<W>>,
+        out: &mut Out<W>,
     ) -> Result<u8, u8> {
         let mut worst = 0u8;
         for file in files {
-            let status = self.show_file(rt, shows, progress, file, out)?;
+            let status = self.show_file(progress, file, out)?;
             worst = worse(worst, status);
         }
         Ok(worst)
     }
 
     // Shows the files of some lists, each of whose names ends with a byte, and returns the worst status.
-    fn show_lists<S: FileView<BufWriter<Titled<W>>>, W: Write>(
+    fn show_lists(
         &self,
-        rt: &HostRuntime,
-        shows: &S,
         progress: &mut Progress,
         lists: &[&str],
         end: u8,
-        out: &mut BufWriter<Titled<W>>,
+        out: &mut Out<W>,
     ) -> Result<u8, u8> {
         let mut worst = 0u8;
         for list in lists {
-            let status = self.show_listed(rt, shows, progress, list, end, out)?;
+            let status = self.show_list(progress, list, end, out)?;
             worst = worse(worst, status);
         }
         Ok(worst)
     }
 
-    // Shows the files of a list, and returns the worst status. Empty names are skipped.
-    fn show_listed<S: FileView<BufWriter<Titled<W>>>, W: Write>(
+    // Shows the files of a list, and returns the worst status.
+    fn show_list(
         &self,
-        rt: &HostRuntime,
-        shows: &S,
         progress: &mut Progress,
         list: &str,
         end: u8,
-        out: &mut BufWriter<Titled<W>>,
+        out: &mut Out<W>,
     ) -> Result<u8, u8> {
-        match self.files.program.read(rt, list) {
-            Ok(bytes) => self.show_list(rt, shows, progress, list, end, &bytes, out),
-            Err(status) => Ok(status),
-        }
-    }
-
-    // Shows the files whose names are the bytes of a list, and returns the worst status.
-    fn show_list<S: FileView<BufWriter<Titled<W>>>, W: Write>(
-        &self,
-        rt: &HostRuntime,
-        shows: &S,
-        progress: &mut Progress,
-        list: &str,
-        end: u8,
-        bytes: &[u8],
-        out: &mut BufWriter<Titled<W>>,
-    ) -> Result<u8, u8> {
-        match names_of(end, bytes) {
-            Ok(names) => self.show_names(rt, shows, progress, list, names.as_slice(), out),
-            Err(AllocError) => Ok(self.files.program.no_memory_for(rt, list)),
+        let (rt, program) = (self.rt, self.files.program);
+        let bytes = match program.read(rt, list) {
+            Ok(bytes) => bytes,
+            Err(status) => return Ok(status),
+        };
+        match names_of(end, &bytes) {
+            Ok(names) => self.show_names(progress, list, names.as_slice(), out),
+            Err(AllocError) => Ok(program.no_memory_for(rt, list)),
         }
     }
 
     // Shows the files of these names, which are in a list, and returns the worst status.
-    fn show_names<S: FileView<BufWriter<Titled<W>>>, W: Write>(
+    fn show_names(
         &self,
-        rt: &HostRuntime,
-        shows: &S,
         progress: &mut Progress,
         list: &str,
         names: &[&[u8]],
-        out: &mut BufWriter<Titled<W>>,
+        out: &mut Out<W>,
     ) -> Result<u8, u8> {
         let mut worst = 0u8;
         for (index, name) in names.iter().enumerate() {
-            let status = self.show_name(rt, shows, progress, list, index, name, out)?;
+            let status = self.show_name(progress, list, index, name, out)?;
             worst = worse(worst, status);
         }
         Ok(worst)
     }
 
-    // Shows the file of this name, which has this index in a list, and returns the status.
-    fn show_name<S: FileView<BufWriter<Titled<W>>>, W: Write>(
+    // Shows the file of this name, which has this index in a list, and returns the status. An empty name is skipped.
+    fn show_name(
         &self,
-        rt: &HostRuntime,
-        shows: &S,
         progress: &mut Progress,
         list: &str,
         index: usize,
         name: &[u8],
-        out: &mut BufWriter<Titled<W>>,
+        out: &mut Out<W>,
     ) -> Result<u8, u8> {
         if name.is_empty() {
             return Ok(0);
         }
         match core::str::from_utf8(name) {
-            Ok(file) => self.show_file(rt, shows, progress, file, out),
-            Err(_) => Ok(self.refuse_name(rt, list, index, name)),
+            Ok(file) => self.show_file(progress, file, out),
+            Err(_) => Ok(self.refuse_name(list, index, name)),
         }
     }
 
     // Shows a file, and returns the status. If a call of many files takes long, a terminal shows which file begins.
-    fn show_file<S: FileView<BufWriter<Titled<W>>>, W: Write>(
-        &self,
-        rt: &HostRuntime,
-        shows: &S,
-        progress: &mut Progress,
-        file: &str,
-        out: &mut BufWriter<Titled<W>>,
-    ) -> Result<u8, u8> {
-        progress.begin(rt, self.files.program.name, file, &mut rt.stderr());
-        match self.files.program.read(rt, file) {
-            Ok(bytes) => self.show_bytes(rt, shows, file, &bytes, out),
+    fn show_file(&self, progress: &mut Progress, file: &str, out: &mut Out<W>) -> Result<u8, u8> {
+        let program = self.files.program;
+        progress.begin(self.rt, program.name, file, &mut self.rt.stderr());
+        match program.read(self.rt, file) {
+            Ok(bytes) => self.show_bytes(file, &bytes, out),
             Err(status) => Ok(status),
         }
     }
 
     // Shows the bytes of a file, and returns the status.
-    fn show_bytes<S: FileView<BufWriter<Titled<W>>>, W: Write>(
-        &self,
-        rt: &HostRuntime,
-        shows: &S,
-        file: &str,
-        bytes: &[u8],
-        out: &mut BufWriter<Titled<W>>,
-    ) -> Result<u8, u8> {
+    fn show_bytes(&self, file: &str, bytes: &[u8], out: &mut Out<W>) -> Result<u8, u8> {
         if !self.files.has_parts {
-            return self.show_itself(rt, shows, file, bytes, out);
+            return self.show_itself(file, bytes, out);
         }
-        let parts = parts_of(bytes);
+        let rt = self.rt;
         let Files { cpu, limit, .. } = self.files;
-        let count = most_images(limit);
+        let parts = parts_of(bytes);
         if is_missed(cpu, parts) {
-            return Ok(self.miss(rt, file));
+            return Ok(self.refuse(file, Label::None, Refusal::NoEntry(cpu)));
         }
-        let first = SelectedParts::of(count, cpu, parts);
-        let status = self.show_parts(rt, shows, file, bytes, first, out)?;
-        let cut = self.cut(rt, file, are_more(count, cpu, parts));
-        let left_out = self.leave_out(rt, file, parts_left_out(bytes));
-        Ok(worse(worse(status, cut), left_out))
+        let omitted = Omitted::of(limit, cpu, parts, parts_left_out(bytes));
+        let worst = self.show_parts(file, bytes, SelectedParts::of(limit, cpu, parts), out)?;
+        let _ = omitted.report(self.names(file), &mut rt.stderr());
+        Ok(worse(worst, status(omitted.is_nothing())))
     }
 
     // Shows these parts of a file, and returns the worst status.
-    fn show_parts<S: FileView<BufWriter<Titled<W>>>, W: Write>(
+    fn show_parts(
         &self,
-        rt: &HostRuntime,
-        shows: &S,
         file: &str,
         bytes: &[u8],
         parts: SelectedParts<'_>,
-        out: &mut BufWriter<Titled<W>>,
+        out: &mut Out<W>,
     ) -> Result<u8, u8> {
         let mut worst = 0u8;
         for part in parts {
-            let status = self.show_placed(rt, shows, file, bytes, part, out)?;
+            let status = self.show_placed(file, bytes, part, out)?;
             worst = worse(worst, status);
         }
         Ok(worst)
     }
 
     // Shows a part of a file that is selected, if it is not out of the file, and returns the status.
-    fn show_placed<S: FileView<BufWriter<Titled<W>>>, W: Write>(
+    fn show_placed(
         &self,
-        rt: &HostRuntime,
-        shows: &S,
         file: &str,
         bytes: &[u8],
         part: InputItem<'_>,
-        out: &mut BufWriter<Titled<W>>,
+        out: &mut Out<W>,
     ) -> Result<u8, u8> {
         match outside_at::<FatArch64>(bytes, part.place.entry) {
-            None => self.show_part(rt, shows, file, part, out),
-            Some(outside) => {
-                let label = Label::of(&part);
-                Ok(self.refuse(rt, file, label, Refusal::OutOfFile(outside)))
-            }
+            None => self.show_part(file, part, out),
+            Some(outside) => Ok(self.refuse(file, Label::of(&part), Refusal::OutOfFile(outside))),
         }
     }
 
     // Shows a part of a file, and returns the status.
-    fn show_part<S: FileView<BufWriter<Titled<W>>>, W: Write>(
-        &self,
-        rt: &HostRuntime,
-        shows: &S,
-        file: &str,
-        part: InputItem<'_>,
-        out: &mut BufWriter<Titled<W>>,
-    ) -> Result<u8, u8> {
+    fn show_part(&self, file: &str, part: InputItem<'_>, out: &mut Out<W>) -> Result<u8, u8> {
+        let rt = self.rt;
         let label = Label::of(&part);
         match shown_part(file, part) {
-            Ok(shown) => self.show_content(rt, shows, file, label, shown, out),
-            Err(error) => Ok(self.refuse(rt, file, label, Refusal::Fault(describe(&error)))),
-        }
-    }
-
-    // Shows what is shown of a part of a file, which has this label, and returns the status.
-    fn show_content<S: FileView<BufWriter<Titled<W>>>, W: Write>(
-        &self,
-        rt: &HostRuntime,
-        shows: &S,
-        file: &str,
-        label: Label<'_>,
-        part: ShownPart<'_>,
-        out: &mut BufWriter<Titled<W>>,
-    ) -> Result<u8, u8> {
-        match part {
-            ShownPart::Nothing => Ok(0),
-            ShownPart::Itself(bytes) => self.show_itself(rt, shows, file, bytes, out),
-            ShownPart::Within(name, bytes) => {
-                let title = self.title(file, name.as_str(), label);
-                self.show_named(rt, shows, title, bytes, true, out)
+            Ok(ShownPart::Nothing) => Ok(0),
+            Ok(ShownPart::Itself(bytes)) => self.show_itself(file, bytes, out),
+            Ok(ShownPart::Within(name, bytes)) => {
+                self.show_named(file, name.as_str(), label, bytes, true, out)
             }
+            Err(error) => Ok(self.refuse(file, label, Refusal::Fault(describe(&error)))),
         }
     }
 
     // Shows a file itself, with a title if it may have one, and returns the status.
-    fn show_itself<S: FileView<BufWriter<Titled<W>>>, W: Write>(
-        &self,
-        rt: &HostRuntime,
-        shows: &S,
-        file: &str,
-        bytes: &[u8],
-        out: &mut BufWriter<Titled<W>>,
-    ) -> Result<u8, u8> {
-        let title = self.title(file, file, Label::None);
-        self.show_named(rt, shows, title, bytes, self.are_several, out)
+    fn show_itself(&self, file: &str, bytes: &[u8], out: &mut Out<W>) -> Result<u8, u8> {
+        self.show_named(file, file, Label::None, bytes, self.are_several, out)
     }
 
-    // Returns the title of a part with this name and label of a file.
-    fn title<'f, 'a>(&self, file: &'f str, name: &'f str, label: Label<'a>) -> Title<'f, 'a> {
-        Title {
+    // Shows bytes under a name, those of what has a label in a file, with a title if they may have one, and returns the status.
+    fn show_named(
+        &self,
+        file: &str,
+        name: &str,
+        label: Label<'_>,
+        bytes: &[u8],
+        is_titled: bool,
+        out: &mut Out<W>,
+    ) -> Result<u8, u8> {
+        let rt = self.rt;
+        let title = Title {
             file,
             name,
             label,
             is_nm: self.is_nm,
-        }
-    }
-
-    // Shows bytes under the name in a title, with the title if they may have one, and returns the status.
-    fn show_named<S: FileView<BufWriter<Titled<W>>>, W: Write>(
-        &self,
-        rt: &HostRuntime,
-        shows: &S,
-        title: Title<'_, '_>,
-        bytes: &[u8],
-        is_titled: bool,
-        out: &mut BufWriter<Titled<W>>,
-    ) -> Result<u8, u8> {
+        };
         match title_of(self.has_title(is_titled, bytes), title) {
             Ok(text) => {
                 put_title(out, text);
-                unless_unwritten(shows.show(rt, title.name, bytes, out))
+                unless_unwritten(self.shows.show(rt, name, bytes, out))
             }
-            Err(AllocError) => Ok(self.files.program.no_memory_for(rt, title.name)),
+            Err(AllocError) => Ok(self.files.program.no_memory_for(rt, name)),
         }
     }
 
@@ -412,58 +348,37 @@ impl Running {
         is_titled & self.files.has_titles & !(self.is_nm & begins_fat(bytes))
     }
 
-    // Reports that no part of a file is selected, and returns the status.
-    fn miss(&self, rt: &HostRuntime, file: &str) -> u8 {
-        self.refuse(rt, file, Label::None, Refusal::NoEntry(self.files.cpu))
-    }
-
-    // Reports that more parts of a file are selected than the limit allows, if so, and returns the status.
-    fn cut(&self, rt: &HostRuntime, file: &str, is_cut: bool) -> u8 {
-        if !is_cut {
-            return 0;
+    // Returns the names of the program and of a file.
+    fn names<'f>(&self, file: &'f str) -> Names<'f> {
+        Names {
+            program: self.files.program.name,
+            file,
         }
-        let count = most_images(self.files.limit);
-        self.refuse(rt, file, Label::None, Refusal::Limit(count))
-    }
-
-    // Reports how many entries of a file are left out, if there are some, and returns the status.
-    fn leave_out(&self, rt: &HostRuntime, file: &str, count: usize) -> u8 {
-        if count == 0 {
-            return 0;
-        }
-        self.refuse(rt, file, Label::None, Refusal::LeftOut(count))
     }
 
     // Reports that a file, or a part with this label, is refused, and returns the status.
-    fn refuse(&self, rt: &HostRuntime, file: &str, label: Label<'_>, refusal: Refusal<'_>) -> u8 {
-        let names = Names {
-            program: self.files.program.name,
-            file,
-        };
-        let _ = complain(names, label, refusal, &mut rt.stderr());
+    fn refuse(&self, file: &str, label: Label<'_>, refusal: Refusal<'_>) -> u8 {
+        let _ = complain(self.names(file), label, refusal, &mut self.rt.stderr());
         1
     }
 
     // Reports that a name in a list isn't text, and returns the status.
-    fn refuse_name(&self, rt: &HostRuntime, list: &str, index: usize, bytes: &[u8]) -> u8 {
-        let names = Names {
-            program: self.files.program.name,
-            file: list,
-        };
+    fn refuse_name(&self, list: &str, index: usize, bytes: &[u8]) -> u8 {
+        let names = self.names(list);
         let no_text = NoText {
             what: "name",
             number: index.saturating_add(1),
             bytes,
         };
-        let _ = rt.eprintln(format_args!("{names}: {no_text}"));
+        let _ = self.rt.eprintln(format_args!("{names}: {no_text}"));
         2
     }
 
     // Reports each argument that isn't text, and returns the status.
-    fn refuse_words(&self, rt: &HostRuntime, words: &[NoText<'_>]) -> u8 {
+    fn refuse_words(&self, words: &[NoText<'_>]) -> u8 {
         let program = self.files.program.name;
         for word in words {
-            let _ = rt.eprintln(format_args!("{program}: {word}"));
+            let _ = self.rt.eprintln(format_args!("{program}: {word}"));
         }
         if words.is_empty() { 0 } else { 2 }
     }

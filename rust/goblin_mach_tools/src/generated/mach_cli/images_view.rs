@@ -33,6 +33,7 @@ pub struct ImagesView<V, K> {
 impl<V: ImageView, K: Sink, W: Write> FileView<BufWriter<W>> for ImagesView<V, K> {
     fn show(&self, rt: &HostRuntime, name: &str, bytes: &[u8], out: &mut BufWriter<W>) -> u8 {
         let document = Document {
+            rt,
             names: Names {
                 program: self.program.name,
                 file: name,

@@ -185,7 +185,7 @@ fn print_row<L: Listing, O: Write>(
     match answer {
         Ok(row) => {
             L::write_row(row, out)?;
-            writeln!(out)?;
+            out.write_all(b"\n")?;
             Ok(true)
         }
         Err(error) => {

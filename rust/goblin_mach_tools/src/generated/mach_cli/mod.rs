@@ -34,6 +34,7 @@ mod label;
 mod listing;
 mod names;
 mod nm_heading;
+mod omitted;
 mod origins;
 mod record_fields;
 mod refusal;
@@ -75,7 +76,6 @@ pub use crate::generated::mach_cli::complaint::{Complaint, Trouble};
 pub use crate::generated::mach_cli::cpu::Cpu;
 pub use crate::generated::mach_cli::digits::print_hexadecimal;
 pub use crate::generated::mach_cli::directory_name::print_name;
-pub use crate::generated::mach_cli::document::Document;
 pub use crate::generated::mach_cli::escaped::{Escaped, EscapedBytes, print_bytes, print_escaped};
 pub use crate::generated::mach_cli::failure::ShowFailure;
 pub use crate::generated::mach_cli::fields::{

@@ -28,6 +28,9 @@ impl Display for Spaces {
 
 // Prints so many spaces.
 pub(crate) fn print_spaces<O: Write>(count: usize, out: &mut O) -> io::Result<()> {
+    if count == 0 {
+        return Ok(());
+    }
     match BLANKS.get(..count) {
         Some(blanks) => out.write_all(blanks.as_bytes()),
         None => {

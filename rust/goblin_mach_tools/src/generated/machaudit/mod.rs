@@ -19,10 +19,11 @@ mod signature_text;
 mod source;
 mod text;
 
-use crate::generated::mach_cli::{Call, Files, Misuse, Program, SharedOnly};
+use crate::generated::mach_cli::{Call, Files, Misuse, Program, SharedOnly, Titled};
 use crate::generated::machaudit::audits::Audits;
 use crate::generated::machaudit::options::{DEFAULT_LIMIT, Options};
 use crate::generated::machaudit::output::NAME;
+use crate::shim::io::{BufWriter, Write};
 use goblin_mach::AllocError;
 use std::process::ExitCode;
 
@@ -73,24 +74,43 @@ fn audit_files(rt: &HostRuntime, call: &Call<'_, SharedOnly>) -> Result<u8, u8> 
     let Ok(only) = only_of(others.are_several(files.len()), files) else {
         return Err(PROGRAM.out_of_memory(rt));
     };
-    let limit = call.limit.unwrap_or(DEFAULT_LIMIT);
-    let audits = Audits {
+    let mut lines = PROGRAM.output(rt, call.color, call.format)?;
+    show_call(rt, call, only, &mut lines)
+}
+
+// Audits what is for a call's cpu of all files that it names, in order, and returns the worst status. `only` is the only file of the
+// call, and empty if there may be several.
+fn show_call<W: Write>(
+    rt: &HostRuntime,
+    call: &Call<'_, SharedOnly>,
+    only: String,
+    out: &mut BufWriter<Titled<W>>,
+) -> Result<u8, u8> {
+    let audits = audits_by(call, only);
+    shown_by(call).show(rt, &audits, &call.words, &call.others, out)
+}
+
+// Returns how a call audits each file.
+fn audits_by(call: &Call<'_, SharedOnly>, only: String) -> Audits {
+    Audits {
         cpu: call.cpu,
         options: Options {
             format: call.format,
-            limit,
+            limit: call.limit.unwrap_or(DEFAULT_LIMIT),
         },
         only,
-    };
-    let mut lines = PROGRAM.output(rt, call.color, call.format)?;
-    let shown = Files {
+    }
+}
+
+// Returns how a call shows its files: part by part, without titles.
+fn shown_by(call: &Call<'_, SharedOnly>) -> Files {
+    Files {
         program: PROGRAM,
         cpu: call.cpu,
         has_titles: false,
         has_parts: true,
-        limit,
-    };
-    shown.show(rt, &audits, files, others, &mut lines)
+        limit: call.limit.unwrap_or(DEFAULT_LIMIT),
+    }
 }
 
 // Returns the name of the only file of a call; empty if there may be several.

@@ -35,7 +35,7 @@ pub struct Call<'a> {
 ///
 /// It is 0 if the file is sound and none of its lists is longer than the limit, else 1. All that is printed has left the buffer
 /// then. With `--quiet` it is one line, which says the same as the status. If the file doesn't open and is not Mach-O, `err` has
-/// a line with its kind, unless it is an entry that is out of its fat file.
+/// a line with its kind, unless it is an entry that is out of its fat file. If memory runs out nothing is printed.
 ///
 /// <details><summary>Proved</summary>
 ///
@@ -43,8 +43,8 @@ pub struct Call<'a> {
 /// - *sound*: if `Ok(status)`: if `status ≡ 0`, `IsSound bytes`
 /// - *whole*: if `Ok(status)`: if `status ≡ 0`, if `IsLong call.entry.options.limit bytes`, `⊥`
 /// - *faulty*: if `Ok(status)`: if `status ≡ 1`, `(IsSound bytes → ⊥) ⊎ IsLong call.entry.options.limit bytes`
-/// - *quiet*: if `Ok(status)`: if `call.entry.options.format ≡ formats.Quiet`, there is `v : Soundness` with: `(status ≡ status_of v) × Judges (IsSound bytes) (IsLong call.entry.options.limit bytes) v × IsOneLine (quiet_line call.entry.name v) × Appends (writer_contents W.contents out.old) (writer_contents W.contents out.new) (quiet_line call.entry.name v)`
-/// - *flushed*: if `Ok`: `writer_buffer out.new ≡ []`
+/// - *audited*: if `Ok(x)`: `AuditsFile W.contents call.entry.options call.entry.name bytes out.old out.new x`
+/// - *memory*: if `Err(e)`: `IfMemory (out.new ≡ out.old) e`
 /// - *message*: if `Ok`: `SaysForeign call.entry.outside call.entry.name bytes (E.contents err.old) (E.contents err.new)`
 ///
 /// </details>

@@ -40,13 +40,15 @@ enum Selected {
 /// The file is audited as a whole if any cpu is selected, if it is one image for the cpu, or if it doesn't open. Otherwise each
 /// entry for the cpu is audited as a file of its own, under the file's name and its index. The status is 0 if each is sound and
 /// none of its lists is longer than the limit. It is 1 if one isn't sound or has a longer list; and also if nothing is for the
-/// cpu, and then `err` has a line that says so.
+/// cpu, and then `err` has a line that says so. All that is printed has left the buffer.
 ///
 /// <details><summary>Proved</summary>
 ///
 /// - *bounds*: if `Ok(status)`: `status ≤ 1`
 /// - *sound*: if `Ok(status)`: if `status ≡ 0`, `IsSoundFor cpu bytes`
 /// - *faulty*: if `Ok(status)`: if `status ≡ 1`, `FailsFor cpu call.entry.options.limit bytes ⊎ MissesAll cpu bytes`
+/// - *written*: if `Ok(x)`: `WritesAudit W.contents call.entry.options cpu call.entry.name bytes out.old out.new x`
+/// - *memory*: if `Err(e)`: `IfMemory (WritesUntilMemory W.contents call.entry.options cpu call.entry.name bytes out.old out.new) e`
 ///
 /// </details>
 pub fn run_for<W: Write, E: Write>(

@@ -179,9 +179,27 @@ fn show_files(
     if files.is_empty() && call.others.is_empty() {
         return Err(PROGRAM.bad_usage(rt, Misuse::Missing("FILE")));
     }
-    let limit = call.limit.unwrap_or(DEFAULT_LIMIT);
     let mut out = PROGRAM.output(rt, call.color, call.format)?;
-    show(rt, Selected { shown, limit }, files, &call.others, &mut out)
+    show_call(rt, call, shown, files, &mut out)
+}
+
+// Returns what a call selects of each file: this, and as many lines as its limit says.
+fn selected_by(call: &Call<'_, Width>, shown: Shown) -> Selected {
+    Selected {
+        shown,
+        limit: call.limit.unwrap_or(DEFAULT_LIMIT),
+    }
+}
+
+// Shows what a call selects of files, and of those that it names in other ways, and returns the worst status.
+fn show_call<W: Write>(
+    rt: &HostRuntime,
+    call: &Call<'_, Width>,
+    shown: Shown,
+    files: &[&str],
+    out: &mut BufWriter<Titled<W>>,
+) -> Result<u8, u8> {
+    show(rt, selected_by(call, shown), files, &call.others, out)
 }
 
 // Shows what is selected of files in order, and returns the worst status. The status of a failed write is an error.

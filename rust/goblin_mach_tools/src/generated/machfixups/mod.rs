@@ -94,12 +94,20 @@ fn start(rt: &HostRuntime) -> Result<u8, u8> {
 
 // Shows the selected lists of files in order, and returns the worst status.
 fn show_files(rt: &HostRuntime, call: &Call<'_, Selection>) -> Result<u8, u8> {
-    let (files, others) = (&call.words, &call.others);
-    if files.is_empty() && others.is_empty() {
+    if call.words.is_empty() && call.others.is_empty() {
         return Err(PROGRAM.bad_usage(rt, Misuse::Missing("FILE")));
     }
     let mut out = PROGRAM.output(rt, call.color, call.format)?;
-    show(rt, &shown_by(call), files, others, &mut out)
+    show_call(rt, call, &mut out)
+}
+
+// Shows what a call selects of all files that it names, and returns the worst status.
+fn show_call<W: Write>(
+    rt: &HostRuntime,
+    call: &Call<'_, Selection>,
+    out: &mut BufWriter<Titled<W>>,
+) -> Result<u8, u8> {
+    show(rt, &shown_by(call), &call.words, &call.others, out)
 }
 
 // Returns how a call shows its files: the selected lists, as lines or as objects.

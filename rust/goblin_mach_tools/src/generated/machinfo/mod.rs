@@ -132,21 +132,25 @@ fn answer(rt: &HostRuntime, call: &Call<'_, SharedOnly>) -> Result<u8, u8> {
         Ok(selection) => selection,
         Err(misuse) => return Err(PROGRAM.bad_usage(rt, misuse)),
     };
-    let (files, others) = (selection.files, &call.others);
-    if files.is_empty() && others.is_empty() {
+    if selection.files.is_empty() && call.others.is_empty() {
         return Err(PROGRAM.bad_usage(rt, Misuse::Missing("FILE")));
     }
     if let Some(misuse) = misspelled(rt, selection) {
         return Err(PROGRAM.bad_usage(rt, misuse));
     }
     let mut out = PROGRAM.output(rt, call.color, call.format)?;
-    show(
-        rt,
-        &shown_by(call, selection.choice),
-        files,
-        others,
-        &mut out,
-    )
+    show_selected(rt, call, selection, &mut out)
+}
+
+// Shows a selection of the files of a call, and of those that the call names in other ways, and returns the worst status.
+fn show_selected<W: Write>(
+    rt: &HostRuntime,
+    call: &Call<'_, SharedOnly>,
+    selection: Selection<'_, '_>,
+    out: &mut BufWriter<Titled<W>>,
+) -> Result<u8, u8> {
+    let shown = shown_by(call, selection.choice);
+    show(rt, &shown, selection.files, &call.others, out)
 }
 
 // Returns what is wrong with a first file before others that is nearly a word, if nothing is selected: it is of small letters alone,

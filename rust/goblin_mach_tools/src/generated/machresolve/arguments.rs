@@ -4,8 +4,8 @@
 
 use crate::generated::mach_cli::Cpu;
 
-/// How many bindings are answered if no other limit is given.
-pub const DEFAULT_LIMIT: usize = 10_000_000;
+// How many bindings are answered if no other limit is given.
+const DEFAULT_LIMIT: usize = 10_000_000;
 
 /// Returns the selected cpu, if not all are selected.
 ///
@@ -19,4 +19,15 @@ pub fn selected_cpu(cpu: Cpu) -> Option<Cpu> {
         Cpu::Any => None,
         Cpu::Number(_) | Cpu::Arch(_) => Some(cpu),
     }
+}
+
+/// Returns how many bindings are answered: as many as the limit of a call, if it has one.
+///
+/// <details><summary>Proved</summary>
+///
+/// - `result ≡ limit_of limit 10000000`
+///
+/// </details>
+pub fn most_answered(limit: Option<usize>) -> usize {
+    limit.unwrap_or(DEFAULT_LIMIT)
 }

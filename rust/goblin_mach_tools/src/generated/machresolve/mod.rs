@@ -23,12 +23,10 @@ mod lines;
 mod output;
 mod refusal;
 
-use crate::generated::mach_cli::{
-    Color, Cpu, Format, Misuse, Options, Program, Progress, SharedOnly,
-};
-use crate::generated::machresolve::arguments::{DEFAULT_LIMIT, selected_cpu};
+use crate::generated::mach_cli::{Call, Format, Misuse, Options, Program, Progress, SharedOnly};
+use crate::generated::machresolve::arguments::{most_answered, selected_cpu};
 use crate::generated::machresolve::output::{NAME, run};
-use crate::shim::io::IsTerminal;
+use crate::shim::io::{BufWriter, IsTerminal, Write};
 use goblin_mach::resolve::Given;
 use std::process::ExitCode;
 
@@ -68,12 +66,9 @@ pub fn main(rt: HostRuntime) -> ExitCode {
 fn start(rt: &HostRuntime) -> Result<u8, u8> {
     let words = PROGRAM.words(rt)?;
     let call = PROGRAM.call(rt, SharedOnly, &words)?;
-    let (wanted, limit) = (selected_cpu(call.cpu), call.limit.unwrap_or(DEFAULT_LIMIT));
     match call.words.as_slice() {
         [] => Err(PROGRAM.bad_usage(rt, Misuse::Missing("PROGRAM"))),
-        [program, libraries @ ..] => {
-            resolve_files(rt, wanted, limit, call.color, program, libraries)
-        }
+        [program, libraries @ ..] => resolve_files(rt, &call, program, libraries),
     }
 }
 
@@ -83,12 +78,10 @@ fn read(rt: &HostRuntime, progress: &mut Progress, file: &str) -> Result<Vec<u8>
     PROGRAM.read(rt, file)
 }
 
-// Resolves a program with its libraries.
+// Resolves a program of a call with its libraries.
 fn resolve_files(
     rt: &HostRuntime,
-    wanted: Option<Cpu>,
-    limit: usize,
-    color: Color,
+    call: &Call<'_, SharedOnly>,
     program: &str,
     libraries: &[&str],
 ) -> Result<u8, u8> {
@@ -113,17 +106,31 @@ fn resolve_files(
             return Err(PROGRAM.out_of_memory(rt));
         }
     }
-    let mut out = PROGRAM.output(rt, color, Format::Text)?;
+    let mut out = PROGRAM.output(rt, call.color, Format::Text)?;
     let program = Given {
         path: program,
         bytes: bytes.as_slice(),
     };
-    Ok(run(
-        wanted,
-        limit,
+    let err = &mut rt.stderr();
+    Ok(resolve_given(
+        rt,
+        call,
         program,
         given.as_slice(),
         &mut out,
-        &mut rt.stderr(),
+        err,
     ))
+}
+
+// Resolves a program with libraries, as a call says, and returns the exit status.
+fn resolve_given<'a, W: Write, E: Write>(
+    rt: &HostRuntime,
+    call: &Call<'_, SharedOnly>,
+    program: Given<'a>,
+    libraries: &[Given<'a>],
+    out: &mut BufWriter<W>,
+    err: &mut E,
+) -> u8 {
+    let (wanted, limit) = (selected_cpu(call.cpu), most_answered(call.limit));
+    run(wanted, limit, program, libraries, out, err)
 }

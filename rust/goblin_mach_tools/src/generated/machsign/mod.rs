@@ -28,7 +28,7 @@ mod signed;
 mod special;
 mod text;
 
-use crate::generated::mach_cli::{Call, Cpu, ImageFiles, Misuse, Options, Others, Program, Titled};
+use crate::generated::mach_cli::{Call, ImageFiles, Misuse, Options, Others, Program, Titled};
 use crate::shim::io;
 use crate::shim::io::{BufWriter, Write};
 use arguments::Entitlements;
@@ -73,33 +73,48 @@ fn start(rt: &HostRuntime) -> Result<u8, u8> {
 
 // Runs a parsed call: writes entitlements, or shows each file.
 fn answer(rt: &HostRuntime, call: &Call<'_, Entitlements>) -> Result<u8, u8> {
-    let (files, others) = (&call.words, &call.others);
     if call.own.are_selected {
-        return write_entitlements(rt, call.cpu, files);
+        return write_entitlements(rt, call);
     }
-    if files.is_empty() && others.is_empty() {
+    if call.words.is_empty() && call.others.is_empty() {
         return Err(PROGRAM.bad_usage(rt, Misuse::Missing("FILE")));
     }
     let mut out = PROGRAM.output(rt, call.color, call.format)?;
-    show_files(rt, &shown_by(call), files, others, &mut out)
+    show_call(rt, call, &mut out)
 }
 
-// Writes the entitlements of the first image of a file that has them, and returns the status.
-fn write_entitlements(rt: &HostRuntime, cpu: Cpu, files: &[&str]) -> Result<u8, u8> {
-    let [file] = files else {
+// Writes the entitlements of the first image of a call's one file that has them, and returns the status.
+fn write_entitlements(rt: &HostRuntime, call: &Call<'_, Entitlements>) -> Result<u8, u8> {
+    let [file] = call.words.as_slice() else {
         return Err(PROGRAM.bad_usage(rt, Misuse::Missing("single FILE")));
     };
     let Ok(mut out) = BufWriter::new(io::writer(rt)) else {
         return Err(PROGRAM.out_of_memory(rt));
     };
     let bytes = PROGRAM.read(rt, file)?;
-    Ok(run_entitlements(
-        cpu,
-        file,
-        &bytes,
-        &mut out,
-        &mut rt.stderr(),
-    ))
+    let err = &mut rt.stderr();
+    Ok(write_found(rt, call, file, &bytes, &mut out, err))
+}
+
+// Writes the entitlements of the first image for a call's cpu that has them, of a file with these bytes, and returns the status.
+fn write_found<W: Write, E: Write>(
+    rt: &HostRuntime,
+    call: &Call<'_, Entitlements>,
+    file: &str,
+    bytes: &[u8],
+    out: &mut BufWriter<W>,
+    err: &mut E,
+) -> u8 {
+    run_entitlements(call.cpu, file, bytes, out, err)
+}
+
+// Shows the signatures of all files that a call names, and returns the worst status.
+fn show_call<W: Write>(
+    rt: &HostRuntime,
+    call: &Call<'_, Entitlements>,
+    out: &mut BufWriter<Titled<W>>,
+) -> Result<u8, u8> {
+    show_files(rt, &shown_by(call), &call.words, &call.others, out)
 }
 
 // Returns how a call shows its files: the signatures of the selected images, as lines or as objects.

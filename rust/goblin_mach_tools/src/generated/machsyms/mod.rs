@@ -100,14 +100,23 @@ fn start(rt: &HostRuntime) -> Result<u8, u8> {
 
 // Shows the selected symbols of files in order, and returns the worst status.
 fn show_files(rt: &HostRuntime, call: &Call<'_, SymbolOptions>) -> Result<u8, u8> {
-    let (files, others) = (&call.words, &call.others);
-    if files.is_empty() && others.is_empty() {
+    if call.words.is_empty() && call.others.is_empty() {
         return Err(PROGRAM.bad_usage(rt, Misuse::Missing("FILE")));
     }
     let mut out = PROGRAM.output(rt, call.color, call.format)?;
+    show_call(rt, call, &mut out)
+}
+
+// Shows all files that a call names, by the address or by the letters that it has, and returns the worst status.
+fn show_call<W: Write>(
+    rt: &HostRuntime,
+    call: &Call<'_, SymbolOptions>,
+    out: &mut BufWriter<Titled<W>>,
+) -> Result<u8, u8> {
+    let (files, others) = (&call.words, &call.others);
     match call.address {
-        Some(address) => show_at(rt, &shown_at(call, address), files, others, &mut out),
-        None => show(rt, &shown_by(call), files, others, &mut out),
+        Some(address) => show_at(rt, &shown_at(call, address), files, others, out),
+        None => show(rt, &shown_by(call), files, others, out),
     }
 }
 

@@ -1,8 +1,10 @@
-use Rattle.std.proofs.lemmas.Result.{IfOk-weaker}
-use Rattle.mach_base.proofs.Written.{Appends-both}
+use Rattle.std.proofs.Common.{refl}
+use Rattle.mach_cli.specs.Labels.{label_view}
+use Rattle.mach_cli.specs.Refusals.{refusal_reason}
+use Rattle.mach_cli.specs.Shown.{not_shown, way_in}
 use Rattle.mach_cli.proofs.document.Document.refuse_image.Goals as goal
 
 pub returns : goal.returns
 returns g c =
-    IfOk-weaker c.end_refused.result _ _
-    (λ outcome reported. (reported.0, reported.1, Appends-both _ _ _ _ _ c.in_ok-begin_image.ensures reported.2, reported.3)) c.end_refused.ensures
+    let w = way_in g.K.Sink.texts g.V.ImageView.lines c.args.self.now in
+    record { shown = not_shown w (label_view c.args.label) (refusal_reason c.args.refusal) c.args.left; shows = refl; whole = refl; left = refl; text = c.in_ok-refuse_image.ensures; message = c.in_ok-complain.ensures }

@@ -1,10 +1,7 @@
-use Rattle.std.proofs.Common.{sym, ap, subst}
-use Rattle.std.proofs.lemmas.Result.{IfOk-weaker}
-use Rattle.mach_cli.specs.Foreigners.{refused_words}
-use Rattle.mach_cli.specs.Names.{names_text}
-use Rattle.mach_cli.specs.Refusals.{complaint}
-use Rattle.mach_cli.specs.Shown.{IsFatTable, refused_file, refused_for}
-use Rattle.mach_cli.proofs.Showing.{Appends-as}
+use Rattle.std.proofs.Common.{List, ℕ, sym, subst}
+use Rattle.mach_cli.specs.Refusals.{refusal_reason}
+use Rattle.mach_cli.specs.Shown.{IsFatTable, ShowsFile, refused_file, refused_for, way_in}
+use Rattle.mach_cli.proofs.Showing.{prints_one}
 use Rattle.mach_cli.proofs.document.Document.show.Goals as goal
 
 pub returns-in-Ok-Image : goal.returns-in-Ok-Image
@@ -18,20 +15,9 @@ returns-in-Ok-Fat g c =
 
 pub returns-in-Err : goal.returns-in-Err
 returns-in-Err g c =
-    let k = g.K.Sink.texts in
     let d = c.args.self.now in
-    let file = d.names.file.now in
-    let names = names_text d.names.program.now file in
-    let e = c.in-Err.error in
-    let is = c.refusal_of.ensures in
-    IfOk-weaker c.refuse.result _ _
-    (λ whole reported. (
-      refused_for k names file (refused_words c.args.bytes.now e) d.limit,
-      refused_file e c.in-Err.ensures.refused,
-      sym reported.0,
-      record {
-        text = Appends-as _ _ _ _ (ap (k.refused_file file) is) reported.1;
-        message = Appends-as _ _ _ _ (ap (complaint names) is) reported.2;
-      },
-    ))
+    let w = way_in g.K.Sink.texts g.V.ImageView.lines d in
+    let Shows = ShowsFile w d.cpu d.limit c.args.bytes.now in
+    prints_one c.refuse.result _ _ _ _ Shows (refused_for w (refusal_reason c.refusal_of.result) d.limit)
+    (subst (λ (words : List ℕ). Shows (refused_for w words d.limit)) (sym c.refusal_of.ensures) (refused_file c.in-Err.error c.in-Err.ensures.refused))
     c.refuse.ensures

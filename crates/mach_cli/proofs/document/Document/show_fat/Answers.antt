@@ -1,63 +1,54 @@
 use Rattle.std.proofs.Common.{◌∙◌, ℕ, List, Bool, not, sym, ap, subst}
-use Rattle.std.proofs.lemmas.Result.{IfOk-weaker}
 use Rattle.std.specs.Prelude.{true, codes, ◌==◌, ◌&&◌}
+use Rattle.std.specs.Io.KnownBytes.{Appends}
+use Rattle.mach_base.proofs.Written.{Appends-both}
 use Rattle.goblin_mach.specs.Items.{ItemView}
 use Rattle.goblin_mach.specs.ItemsLeft.{input_items_left}
 use Rattle.mach_cli.specs.Bounds.{most_images}
 use Rattle.mach_cli.specs.Cpus.{no_entry_words}
-use Rattle.mach_cli.specs.Names.{names_text}
-use Rattle.mach_cli.specs.PartsOf.{items_before, parts_left}
-use Rattle.mach_cli.specs.Selected.{are_more, parts_within}
-use Rattle.mach_cli.specs.Shown.{ShowsFile, ShowsItems, fat_file, fat_of, left_out_line, limit_line, no_entry, refused_for}
+use Rattle.mach_cli.specs.PartsOf.{items_before}
+use Rattle.mach_cli.specs.Selected.{omitted_of, parts_within}
+use Rattle.mach_cli.specs.Shown.{ShowsFile, ShowsItems, archs_items, fat_file, fat_of, no_entry, omitted_lines, refused_for, way_in}
 use Rattle.mach_cli.specs.TableEntries.{archs_left_out, archs_shown}
-use Rattle.mach_cli.proofs.Showing.{three}
+use Rattle.mach_cli.specs.declared.omitted.Omitted.{Omitted}
+use Rattle.mach_cli.proofs.Showing.{prints_one, three}
 use Rattle.mach_cli.proofs.document.Document.show_fat.Goals as goal
 
 pub returns-then-misses : goal.returns-then-misses
 returns-then-misses g c = λ table has items.
     let d = c.args.self.now in
-    let file = d.names.file.now in
-    IfOk-weaker c.refuse.result _ _
-    (λ whole reported. (
-      refused_for g.K.Sink.texts (names_text d.names.program.now file) file (no_entry_words d.cpu) d.limit,
-      no_entry table c.args.records.now has (sym c.misses.ensures ∙ c.if-misses.true),
-      sym reported.0,
-      record { text = reported.1; message = reported.2 },
-    ))
-    c.refuse.ensures
+    let w = way_in g.K.Sink.texts g.V.ImageView.lines d in
+    prints_one c.refuse.result _ _ _ _ (ShowsFile w d.cpu d.limit c.args.bytes.now) (refused_for w (no_entry_words d.cpu) d.limit)
+    (no_entry table c.args.records.now has (sym c.misses.ensures ∙ c.if-misses.true)) c.refuse.ensures
 
 pub returns : goal.returns
 returns g c = λ table has items.
-    let k = g.K.Sink.texts in
     let d = c.args.self.now in
-    let file = d.names.file.now in
-    let names = names_text d.names.program.now file in
-    let lines = g.V.ImageView.lines d.view.now file d.limit in
+    let w = way_in g.K.Sink.texts g.V.ImageView.lines d in
+    let k = w.texts in
     let bytes = c.args.bytes.now in
     let archs = c.args.records.now in
-    let some = c.in_ok-whole.ensures in
+    let some = c.in_ok-outcome.ensures in
+    let o = c.of-omitted.result in
     let n = c.archs_left_out-left_out.result in
-    let more = c.are_more-is_cut.result in
-    let parts = c.within-parts.ensures ∙ ap (λ most. items_before most (input_items_left c.args.images)) c.archs_shown-most.ensures
+    let parts = c.within-parts.ensures ∙ ap (λ most. items_before most (input_items_left c.args.images)) c.archs_shown.ensures
     ∙ ap (items_before (archs_shown bytes archs)) items
     in
-    let are = λ (xs : List ItemView). ShowsItems k names file lines bytes true d.limit xs some.0 in
-    let first = c.of-first.ensures ∙ ap (λ most. parts_within most d.cpu (parts_left c.within-parts.result)) c.most_images-count.ensures
-    ∙ ap (parts_within (most_images d.limit) d.cpu) parts
+    let is = c.of-omitted.ensures ∙ ap (λ (xs : List ItemView). omitted_of d.limit d.cpu xs n) parts
+    ∙ ap (omitted_of d.limit d.cpu (archs_items bytes archs)) c.archs_left_out-left_out.ensures
     in
-    let is_cut = c.are_more-is_cut.ensures ∙ ap (λ most. are_more most d.cpu (parts_left c.within-parts.result)) c.most_images-count.ensures
-    ∙ ap (are_more (most_images d.limit) d.cpu) parts
+    let fat = fat_file table archs some.shown has (sym c.misses.ensures ∙ c.if-misses.false)
+    (subst (λ (xs : List ItemView). ShowsItems w bytes true d.limit xs some.shown)
+    (c.of-items.ensures ∙ ap (parts_within (most_images d.limit) d.cpu) parts) some.shows)
     in
-    let shown = fat_file table archs some.0 has (sym c.misses.ensures ∙ c.if-misses.false) (subst are first some.1) in
-    let file_of = λ (cut : Bool). λ (count : ℕ). ShowsFile k names lines d.cpu file d.limit bytes (fat_of k names file d.limit cut count some.0) in (
-      fat_of k names file d.limit more n some.0,
-      subst (λ (count : ℕ). file_of more count) (sym c.archs_left_out-left_out.ensures)
-          (subst (λ (cut : Bool). file_of cut (archs_left_out bytes archs)) (sym is_cut) shown),
-      ap (λ first. first && (not more && (n == 0))) some.2,
-      record {
-        text = three _ _ _ _ (k.file_front n) some.0.text (k.file_end more (codes "fat file") file) c.in_ok-begin_file.ensures some.3.text
-            c.in_ok-end_file.ensures;
-        message = three _ _ _ _ some.0.message (limit_line names d.limit more) (left_out_line names n) some.3.message c.in_ok-cut.ensures
-            c.in_ok-leave_out.ensures;
-      },
-    )
+    record {
+      shown = fat_of w o.limit o.is_cut o.left_out some.shown;
+      shows = subst (λ (omitted : Omitted). ShowsFile w d.cpu d.limit bytes (fat_of w omitted.limit omitted.is_cut omitted.left_out some.shown)) (sym is) fat;
+      whole = ap (λ first. first && (not o.is_cut && (o.left_out == 0))) some.whole
+          ∙ ap (λ second. c.in_ok-outcome.outcome.whole && second) (sym c.is_nothing.ensures);
+      left = some.left;
+      text = three _ _ _ _ (k.file_front o.left_out) some.shown.text (k.file_end o.is_cut (codes "fat file") w.file)
+          (subst (λ (count : ℕ). Appends (g.O.Write.contents c.args.out.now) (g.O.Write.contents c.begin_file.new.out) (k.file_front count)) (sym (ap (λ (omitted : Omitted). omitted.left_out) c.of-omitted.ensures))
+          c.in_ok-begin_file.ensures) some.text c.in_ok-end_file.ensures;
+      message = Appends-both _ _ _ some.shown.message (omitted_lines w.names o.limit o.is_cut o.left_out) some.message c.in_ok-report.ensures;
+    }

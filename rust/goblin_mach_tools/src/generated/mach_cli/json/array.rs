@@ -135,8 +135,7 @@ fn print_object<L: Listing, O: Write>(
     is_first: bool,
     out: &mut O,
 ) -> io::Result<bool> {
-    let comma = comma_before(is_first);
-    write!(out, "{comma}")?;
+    out.write_all(comma_before(is_first).as_bytes())?;
     match answer {
         Ok(row) => {
             L::write_row(row, out)?;

@@ -2,6 +2,7 @@
 //! Which parts of a file are selected.
 #![forbid(unsafe_code)]
 
+use crate::generated::mach_cli::bounds::most_images;
 use crate::generated::mach_cli::cpu::Cpu;
 use crate::generated::mach_cli::parts::Parts;
 use goblin_mach::{InputItem, ItemPlace};
@@ -69,17 +70,17 @@ pub struct SelectedParts<'a> {
 }
 
 impl<'a> SelectedParts<'a> {
-    /// Returns the first of these parts that are selected.
+    /// Returns the first of these parts that are selected, as many as so many lines allow.
     ///
     /// <details><summary>Proved</summary>
     ///
-    /// - `within_left result ≡ parts_within limit cpu (parts_left parts.entry)`
+    /// - `within_left result ≡ parts_within (most_images limit) cpu (parts_left parts.entry)`
     ///
     /// </details>
     pub fn of(limit: usize, cpu: Cpu, parts: Parts<'a>) -> Self {
         SelectedParts {
             cpu,
-            room: limit,
+            room: most_images(limit),
             parts,
         }
     }

@@ -1,9 +1,0 @@
-use Rattle.mach_cli.specs.Selected.{within_left}
-use Rattle.mach_cli.specs.ShownCalls.{manner_in, ShowsPart}
-use Rattle.mach_cli.proofs.Orders.{Completes}
-use Rattle.mach_cli.proofs.files.Running.show_parts.Given as goal
-
-abbrev pub invariant-parts : goal.invariant-parts
-invariant-parts g l =
-    let m = manner_in l.self (g.S.FileView.shows l.shows) in
-    Completes (ShowsPart m l.file l.bytes) (within_left l.fn.parts) l.fn.out (within_left l.part-iterator) l.out l.worst

@@ -1,0 +1,63 @@
+-- What a call shows.
+use Rattle.std.specs.Prelude.{◌≡◌, ◌^◌, ◌-◌, ℕ, List, Option, codes, not}
+use Rattle.std.specs.declared.io.buffered.BufWriter.{BufWriter}
+use Rattle.mach_cli.specs.AddressLines.{AreAddressLines}
+use Rattle.mach_cli.specs.AddressObjects.{AreAddressMembers}
+use Rattle.mach_cli.specs.Bounds.{limit_of}
+use Rattle.mach_cli.specs.Calls.{is_json}
+use Rattle.mach_cli.specs.ShownCalls.{ShowsJson, ShowsNm}
+use Rattle.mach_cli.specs.declared.address.object.AddressObjectsOf.{AddressObjectsOf}
+use Rattle.mach_cli.specs.declared.address.view.AddressLinesOf.{AddressLinesOf}
+use Rattle.mach_cli.specs.declared.call.Call.{Call}
+use Rattle.mach_cli.specs.declared.image_files.ImageFiles.{ImageFiles}
+use Rattle.mach_cli.specs.declared.titled.Titled.{Titled}
+use Rattle.machsyms.specs.ImageLines.{AreSelectedLines}
+use Rattle.machsyms.specs.JsonSymbols.{AreSelectedMembers}
+use Rattle.machsyms.specs.LetterWords.{names_files}
+use Rattle.machsyms.specs.declared.arguments.SymbolOptions.{SymbolOptions}
+use Rattle.machsyms.specs.declared.json.SymbolObjectsOf.{SymbolObjectsOf}
+use Rattle.machsyms.specs.declared.symbol_view.SymbolLinesOf.{SymbolLinesOf}
+
+-- How a call shows its files: the symbols that its letters select, as lines or as objects.
+pub record AreSymbolFiles {A : Type 0} (call : Call A SymbolOptions) (s : ImageFiles SymbolLinesOf SymbolObjectsOf) : Type 0 where
+  pub program : s.program.name.now ≡ codes "machsyms"
+  pub cpu : s.cpu ≡ call.cpu
+  pub limit : s.limit ≡ limit_of call.limit (2 ^ 64 - 1)
+  pub form : s.is_json ≡ is_json call.format
+  pub titles : s.has_titles ≡ not (names_files call.own.letters)
+  pub lines : s.lines ≡ record { letters = call.own.letters; is_raw = call.own.is_raw }
+  pub objects : s.objects ≡ record { letters = call.own.letters; is_raw = call.own.is_raw }
+
+-- How a call shows its files by an address: what each image has there, as a line or as an object.
+pub record AreAddressFiles {A : Type 0} (call : Call A SymbolOptions) (address : ℕ) (s : ImageFiles AddressLinesOf AddressObjectsOf) : Type 0 where
+  pub program : s.program.name.now ≡ codes "machsyms"
+  pub cpu : s.cpu ≡ call.cpu
+  pub limit : s.limit ≡ limit_of call.limit (2 ^ 64 - 1)
+  pub form : s.is_json ≡ is_json call.format
+  pub titles : s.has_titles ≡ not (names_files call.own.letters)
+  pub lines : s.lines ≡ record { address = address; has_file = names_files call.own.letters; is_raw = call.own.is_raw }
+  pub objects : s.objects ≡ record { address = address }
+
+-- A call shows the symbols of all files that it names, as lines.
+abbrev pub ShowsSymbolLines : {W A B : Type 0} → (contents : W → Option (List ℕ)) → Call A SymbolOptions → (old new : BufWriter (Titled W) B)
+    → (worst : ℕ) → Type 0
+ShowsSymbolLines contents call old new worst = (s : ImageFiles SymbolLinesOf SymbolObjectsOf) × AreSymbolFiles call s
+    × ShowsNm s s.program.name.now (AreSelectedLines s.lines.letters s.lines.is_raw) contents call.words.items call.others old new worst
+
+-- the same as objects
+abbrev pub ShowsSymbolObjects : {W A B : Type 0} → (contents : W → Option (List ℕ)) → Call A SymbolOptions → (old new : BufWriter (Titled W) B)
+    → (worst : ℕ) → Type 0
+ShowsSymbolObjects contents call old new worst = (s : ImageFiles SymbolLinesOf SymbolObjectsOf) × AreSymbolFiles call s
+    × ShowsJson s s.program.name.now (AreSelectedMembers s.objects.letters s.objects.is_raw) contents call.words.items call.others old new worst
+
+-- A call shows what the images of all files that it names have at an address, as lines.
+abbrev pub ShowsLinesAt : {W A B : Type 0} → (contents : W → Option (List ℕ)) → Call A SymbolOptions → (address : ℕ) → (old new : BufWriter (Titled W) B)
+    → (worst : ℕ) → Type 0
+ShowsLinesAt contents call address old new worst = (s : ImageFiles AddressLinesOf AddressObjectsOf) × AreAddressFiles call address s
+    × ShowsNm s s.program.name.now (AreAddressLines s.lines.address s.lines.has_file s.lines.is_raw) contents call.words.items call.others old new worst
+
+-- the same as objects
+abbrev pub ShowsObjectsAt : {W A B : Type 0} → (contents : W → Option (List ℕ)) → Call A SymbolOptions → (address : ℕ) → (old new : BufWriter (Titled W) B)
+    → (worst : ℕ) → Type 0
+ShowsObjectsAt contents call address old new worst = (s : ImageFiles AddressLinesOf AddressObjectsOf) × AreAddressFiles call address s
+    × ShowsJson s s.program.name.now (AreAddressMembers s.objects.address) contents call.words.items call.others old new worst
