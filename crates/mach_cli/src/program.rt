@@ -4,7 +4,7 @@ ghost use Rattle.std.specs.Prelude.{◌≡◌, IfErr, IfOk, drop, false, true};
 ghost use Rattle.mach_dyld.specs.Exports.{text_in};
 ghost use Rattle.mach_cli.specs.Calls.{call_view, is_json, AsksFor, Selects};
 ghost use Rattle.mach_cli.specs.FileTitles.{IsUnreadStatus};
-ghost use Rattle.mach_cli.specs.Outputs.{is_colouring, painter_in};
+ghost use Rattle.mach_cli.specs.Outputs.{is_colouring, painter_in, IsFresh};
 ghost use Rattle.mach_cli.specs.ProgramTexts.{program_text};
 ghost use Rattle.mach_cli.specs.Statuses.{IsStatus};
 
@@ -82,8 +82,8 @@ impl Program {
         }
     }
 
-    /// Returns standard output for this form, coloured if `color` says so. If memory runs out that is reported, and the error is
-    /// the exit status.
+    /// Returns standard output for this form, coloured if `color` says so. Nothing is in it yet. If memory runs out that is
+    /// reported, and the error is the exit status.
     pub fn output<'r>(
         &self,
         rt: &'r HostRuntime,
@@ -91,6 +91,7 @@ impl Program {
         format: Format,
     ) -> Result<Output<'r>, u8>
         ensures status { IfErr result (λ status. status ≡ 1) }
+        ensures fresh { IfOk result IsFresh }
         ensures json { is_json format ≡ true → IfOk result (λ out. is_colouring (painter_in out) ≡ false) }
         ensures never { color ≡ Color.Never → IfOk result (λ out. is_colouring (painter_in out) ≡ false) }
         ensures always { color ≡ Color.Always → is_json format ≡ false → IfOk result (λ out. is_colouring (painter_in out) ≡ true) }
