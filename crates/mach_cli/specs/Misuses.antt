@@ -1,7 +1,10 @@
 -- The texts of what is wrong with the arguments of a call.
-use Rattle.std.specs.Prelude.{ℕ, List, Option, Some, None, ◌++◌, codes}
+use Rattle.std.specs.Prelude.{◌≡◌, ◌≤◌, ◌+◌, ◌/◌, ℕ, List, Option, Some, None, ◌++◌, codes, length, min, IfSome}
+use Rattle.std.specs.Str.{chars}
+use Rattle.strsim.specs.Edits.{osa_table}
 use Rattle.mach_cli.specs.CallWords.{no_text_words}
 use Rattle.mach_cli.specs.Escapes.{escaped_text}
+use Rattle.mach_cli.specs.declared.flag.Nearest.{Nearest}
 use Rattle.mach_cli.specs.declared.misuse.Misuse.{Misuse}
 use Rattle.mach_cli.specs.declared.misuse.Misuse.TheVariants.{UnknownOption, UnknownWord, NoNumber, NoCpu, NoAddress, NoColor, Missing, NoText}
 
@@ -25,3 +28,22 @@ unknown_in (NoAddress word) = None
 unknown_in (NoColor word) = None
 unknown_in (Missing what) = None
 unknown_in (NoText word) = None
+
+-- ---- what was meant
+
+-- how many letters are put in, left out, changed or swapped with the next, to come from one word to another
+abbrev pub edits_between : (word name : List ℕ) → ℕ
+edits_between word name = (osa_table (chars word) (chars name)).last_row (length (chars name))
+
+-- the most edits that lead from a word to one that it may mean: two, and no more than half of its bytes
+abbrev pub most_edits : List ℕ → ℕ
+most_edits word = min (length word / 2) 2
+
+-- A name is another word, and it is near.
+abbrev pub IsNear : (word name : List ℕ) → Type 0
+IsNear word name = (1 ≤ edits_between word name) × (edits_between word name ≤ most_edits word)
+
+-- The nearest name so far is near, or the same; if there is none, a near one is nearer.
+pub record AreNear (word : List ℕ) (n : Nearest) : Type 0 where
+  pub few : n.edits ≤ most_edits word + 1
+  pub near : IfSome n.name (λ name. (n.edits ≡ edits_between word name.now) × (n.edits ≤ most_edits word))

@@ -1,6 +1,7 @@
 //! The words and options of a program: a line for each, as `--help` prints it, and which of them a wrong word probably means.
 
-ghost use Rattle.std.specs.Prelude.{◌≡◌, ◌/◌, length, min};
+ghost use Rattle.std.specs.Prelude.{◌≡◌, IfOk, IfSome};
+ghost use Rattle.mach_cli.specs.Misuses.{most_edits, unknown_in, AreNear, IsNear};
 
 use crate::call::is_shared;
 use crate::misuse::Misuse;
@@ -106,7 +107,9 @@ impl Nearest {
         word: &str,
         lines: &'static str,
         program: &Program,
-    ) -> Result<Nearest, AllocError> {
+    ) -> Result<Nearest, AllocError>
+        ensures { AreNear word.now self → IfOk result (AreNear word.now) }
+    {
         let mut nearest = self;
         'lines: for line in lines.lines() {
             let name = name_in(line);
@@ -124,7 +127,7 @@ impl Nearest {
 
 // Returns the most edits that lead from a word to one that it may mean: two, and no more than half of its bytes.
 fn most_edits(word: &str) -> usize
-    ensures { result ≡ min (length word.now / 2) 2 }
+    ensures { result ≡ most_edits word.now }
 {
     (word.len() / 2).min(2)
 }
@@ -136,7 +139,9 @@ impl Program {
     }
 
     /// Returns its word or option that was probably meant in place of an unknown one, if one is near and memory doesn't run out.
-    pub fn meant(&self, alloc: Global, misuse: Misuse<'_>) -> Option<&'static str> {
+    pub fn meant(&self, alloc: Global, misuse: Misuse<'_>) -> Option<&'static str>
+        ensures { IfSome result (λ name. IfSome (unknown_in misuse.entry) (λ word. IsNear word name.now)) }
+    {
         self.meant_by(alloc, misuse.unknown()?).unwrap_or(None)
     }
 
@@ -145,7 +150,9 @@ impl Program {
         &self,
         alloc: A,
         word: &str,
-    ) -> Result<Option<&'static str>, AllocError> {
+    ) -> Result<Option<&'static str>, AllocError>
+        ensures { IfOk result (λ meant. IfSome meant (λ name. IsNear word.now name.now)) }
+    {
         let mut nearest = Nearest {
             name: None,
             edits: most_edits(word) + 1,
