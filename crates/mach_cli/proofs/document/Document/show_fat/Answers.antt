@@ -48,7 +48,8 @@ returns g c = λ table has items.
           ∙ ap (λ second. c.in_ok-outcome.outcome.whole && second) (sym c.is_nothing.ensures);
       left = some.left;
       text = three _ _ _ _ (k.file_front o.left_out) some.shown.text (k.file_end o.is_cut (codes "fat file") w.file)
-          (subst (λ (count : ℕ). Appends (g.O.Write.contents c.args.out.now) (g.O.Write.contents c.begin_file.new.out) (k.file_front count)) (sym (ap (λ (omitted : Omitted). omitted.left_out) c.of-omitted.ensures))
+          (subst (λ (count : ℕ). Appends (g.O.Write.contents c.args.out.now) (g.O.Write.contents c.begin_file.new.out) (k.file_front count))
+          (sym (ap (λ (omitted : Omitted). omitted.left_out) c.of-omitted.ensures))
           c.in_ok-begin_file.ensures) some.text c.in_ok-end_file.ensures;
       message = Appends-both _ _ _ some.shown.message (omitted_lines w.names o) some.message c.in_ok-report.ensures;
     }

@@ -60,5 +60,5 @@ returns-in-Err-clause-shown g c =
     let out = c.args.out.now in
     let x = input_item_read c.args.part in
     let part = shown_in c.args.file.now x.place.entry x.content in
-    part_as m c.args.file.now (label_of x.place x.content) out out _ _ part part 1 _ (sym c.in-None.is ∙ c.outside_at.ensures) refl (sym c.refuse-in-Err.ensures)
-    (refused_part part c.in-Err.error c.in-Err.ensures refl)
+    part_as m c.args.file.now (label_of x.place x.content) out out _ _ part part 1 _ (sym c.in-None.is ∙ c.outside_at.ensures) refl
+    (sym c.refuse-in-Err.ensures) (refused_part part c.in-Err.error c.in-Err.ensures refl)
