@@ -1,8 +1,15 @@
 -- Things that are shown in order, one after the other.
-use Rattle.std.proofs.Common.{◌≡◌, ◌∷◌, [], ℕ, List, sym, subst, map, arith}
+use Rattle.std.proofs.Common.{◌≡◌, ◌∷◌, [], ℕ, List, Option, Result, sym, subst, map, arith}
 use Rattle.std.proofs.Math.Nat.{max-zero, zero-max}
 use Rattle.std.specs.Prelude.{max}
+use Rattle.std.specs.declared.io.buffered.BufWriter.{BufWriter}
+use Rattle.mach_base.specs.Fault.{Fault}
 use Rattle.mach_cli.specs.InOrder.{InOrder, first_then, none_left}
+use Rattle.mach_cli.specs.Labels.{LabelView}
+use Rattle.mach_cli.specs.ShownCalls.{Manner, ShowsPartAs}
+use Rattle.mach_cli.specs.ShownParts.{PartShown}
+use Rattle.mach_cli.specs.declared.entries.OutOfFile.{OutOfFile}
+use Rattle.mach_cli.specs.declared.titled.Titled.{Titled}
 
 max_three : (a b c : ℕ) → max a (max b c) ≡ max (max a b) c
 max_three a b c = omega arith
@@ -35,3 +42,12 @@ pub of_views : {X Y W : Type 0} (view : X → Y) (Shows : Y → W → W → ℕ 
 of_views view Shows [] old new worst (none_left writer) = none_left writer
 of_views view Shows (x ∷ xs) old new worst (first_then _ _ _ between _ status later one more) =
     first_then (view x) (map view xs) old between new status later one (of_views view Shows xs between new later more)
+
+-- what is shown of a part, by equal facts of it
+pub part_as : {W B : Type 0} (m : Manner W B) (file : List ℕ) (label : LabelView) (old new : BufWriter (Titled W) B) (outside there : Option OutOfFile)
+    (part read : Result PartShown Fault) (status is : ℕ) → outside ≡ there → part ≡ read → status ≡ is
+    → ShowsPartAs m file label old new outside part status → ShowsPartAs m file label old new there read is
+part_as m file label old new outside there part read status is place content same shown =
+    subst (λ (s : ℕ). ShowsPartAs m file label old new there read s) same
+    (subst (λ (p : Result PartShown Fault). ShowsPartAs m file label old new there p status) content
+    (subst (λ (o : Option OutOfFile). ShowsPartAs m file label old new o part status) place shown))

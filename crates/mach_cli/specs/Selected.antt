@@ -1,6 +1,6 @@
 -- Which parts of a file are selected.
-use Rattle.std.specs.Prelude.{not, ℕ, List, [], ◌∷◌, Bool, true, false, Option, Some, None, length, nat_lt, take}
-use Rattle.std.specs.List.{filter, list_any}
+use Rattle.std.specs.Prelude.{◌==◌, ◌&&◌, ℕ, List, Bool, true, Option, Some, None, length, nat_lt, take}
+use Rattle.std.specs.List.{filter}
 use Rattle.goblin_mach.specs.Items.{ItemView}
 use Rattle.goblin_mach.specs.declared.item.EntryCpu.{EntryCpu}
 use Rattle.goblin_mach.specs.declared.item.ItemPlace.{ItemPlace}
@@ -36,8 +36,7 @@ omitted_of limit cpu xs left_out = record { limit = limit; is_cut = are_more (mo
 
 -- whether there are parts, and none of them is selected
 abbrev pub are_missed : Cpu → List ItemView → Bool
-are_missed cpu [] = false
-are_missed cpu (x ∷ xs) = not (list_any (λ y. is_part_for cpu y.place) (x ∷ xs))
+are_missed cpu xs = nat_lt 0 (length xs) && (length (selected_parts cpu xs) == 0)
 
 -- ---- the parts left
 

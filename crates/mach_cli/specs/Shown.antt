@@ -1,5 +1,5 @@
 -- What a program shows of a file: the text on its output, and the reasons for refusals on its error output.
-use Rattle.std.specs.Prelude.{◌≡◌, ◌==◌, ℕ, List, [], ◌∷◌, ◌++◌, codes, Bool, true, false, ◌&&◌, not, Option, Some, None, Result, Ok, Err}
+use Rattle.std.specs.Prelude.{◌≡◌, ◌==◌, ℕ, List, [], ◌∷◌, ◌++◌, codes, Bool, true, false, ◌&&◌, not, Option, Some, None, Result, Ok, Err, nat_lt}
 use Rattle.std.specs.Prelude.{if◌then◌else◌}
 use Rattle.std.specs.Io.KnownBytes.{Appends}
 use Rattle.mach_base.specs.Answer.{ErrorMeets}
@@ -19,13 +19,14 @@ use Rattle.mach_cli.specs.Foreigners.{refused_words}
 use Rattle.mach_cli.specs.Labels.{LabelView, label_of, unlabelled}
 use Rattle.mach_cli.specs.Names.{names_text}
 use Rattle.mach_cli.specs.Refusals.{complaint, item_words, label_complaint, limit_words}
-use Rattle.mach_cli.specs.Selected.{are_more, parts_within}
+use Rattle.mach_cli.specs.Selected.{omitted_of, parts_within}
 use Rattle.mach_cli.specs.PartsOf.{items_before}
 use Rattle.mach_cli.specs.Sinks.{SinkTexts}
 use Rattle.mach_cli.specs.TableEntries.{archs_left_out, archs_shown, left_out_words, outside_at, outside_words}
 use Rattle.mach_cli.specs.declared.document.Document.{Document}
 use Rattle.mach_cli.specs.declared.entries.OutOfFile.{OutOfFile}
 use Rattle.mach_cli.specs.declared.image_view.Outcome.{Outcome}
+use Rattle.mach_cli.specs.declared.omitted.Omitted.{Omitted}
 
 -- What a program prints of an image, with no more than `left` lines or rows: a relation of that number, the bytes at whose
 -- start the image opens, the text, whether that is whole, and how many more lines may be printed after it.
@@ -139,23 +140,19 @@ whole_of w shown = record {
   left = shown.left;
 }
 
--- the line that says how many entries are left out, if there are some
-abbrev pub left_out_line : (names : List ℕ) → (left_out : ℕ) → List ℕ
-left_out_line names left_out = if left_out == 0 then [] else complaint names (left_out_words left_out)
+-- the lines that say that the limit leaves out more images, if it does, and how many entries are left out, if there are some
+abbrev pub line_if : (names : List ℕ) → (occurs : Bool) → (words : List ℕ) → List ℕ
+line_if names occurs words = if occurs then complaint names words else []
 
--- the line that says that the limit leaves out more images, if it does
-abbrev pub limit_line : (names : List ℕ) → (limit : ℕ) → (is_cut : Bool) → List ℕ
-limit_line names limit is_cut = if is_cut then complaint names (limit_words (most_images limit)) else []
+abbrev pub omitted_lines : (names : List ℕ) → Omitted → List ℕ
+omitted_lines names o = line_if names o.is_cut (limit_words (most_images o.limit)) ++ line_if names (nat_lt 0 o.left_out) (left_out_words o.left_out)
 
-abbrev pub omitted_lines : (names : List ℕ) → (limit : ℕ) → (is_cut : Bool) → (left_out : ℕ) → List ℕ
-omitted_lines names limit is_cut left_out = limit_line names limit is_cut ++ left_out_line names left_out
-
--- a fat file with what is shown of its items, whether the limit leaves out more, and how many of its entries are left out
-abbrev pub fat_of : Way → (limit : ℕ) → (is_cut : Bool) → (left_out : ℕ) → Shown → Shown
-fat_of w limit is_cut left_out shown = record {
-  text = w.texts.file_front left_out ++ (shown.text ++ w.texts.file_end is_cut (codes "fat file") w.file);
-  message = shown.message ++ omitted_lines w.names limit is_cut left_out;
-  whole = shown.whole && (not is_cut && (left_out == 0));
+-- a fat file with what is shown of its items, and what is omitted
+abbrev pub fat_of : Way → Omitted → Shown → Shown
+fat_of w o shown = record {
+  text = w.texts.file_front o.left_out ++ (shown.text ++ w.texts.file_end o.is_cut (codes "fat file") w.file);
+  message = shown.message ++ omitted_lines w.names o;
+  whole = shown.whole && (not o.is_cut && (o.left_out == 0));
   left = shown.left;
 }
 
@@ -176,7 +173,7 @@ pub data ShowsFile (w : Way) (cpu : Cpu) (limit : ℕ) (bytes : List ℕ) : Show
   other_image : IsTaken cpu bytes false → ShowsFile w cpu limit bytes (refused_for w (other_words cpu) limit)
   fat_file : (file : FatFile) (archs : List FatArch) (shown : Shown) → IsFatTable bytes file archs → misses cpu archs ≡ false
       → ShowsItems w bytes true limit (parts_within (most_images limit) cpu (archs_items bytes archs)) shown
-      → ShowsFile w cpu limit bytes (fat_of w limit (are_more (most_images limit) cpu (archs_items bytes archs)) (archs_left_out bytes archs) shown)
+      → ShowsFile w cpu limit bytes (fat_of w (omitted_of limit cpu (archs_items bytes archs) (archs_left_out bytes archs)) shown)
   no_entry : (file : FatFile) (archs : List FatArch) → IsFatTable bytes file archs → misses cpu archs ≡ true
       → ShowsFile w cpu limit bytes (refused_for w (no_entry_words cpu) limit)
   refused_file : (e : Error) → ErrorMeets (ViewFault bytes) e → ShowsFile w cpu limit bytes (refused_for w (refused_words bytes e) limit)

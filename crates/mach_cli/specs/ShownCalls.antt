@@ -79,24 +79,21 @@ pub data ShowsTitled {W B : Type 0} (m : Manner W B) (is_titled : Bool) (p : Nam
       → m.shows p.name bytes between new status → ShowsTitled m is_titled p bytes old new status
   without_title : have_title m.call m.is_nm is_titled bytes ≡ true → new ≡ old → ShowsTitled m is_titled p bytes old new 1
 
--- What is shown of a part of a file with this label: nothing of an archive without members, the file itself, or what is within it
--- under its own name; or nothing, since it can't be read or memory ran out.
-pub data ShowsContent {W B : Type 0} (m : Manner W B) (file : List ℕ) (label : LabelView) (old new : BufWriter (Titled W) B)
-    : Result PartShown Fault → (status : ℕ) → Type 0 where
-  empty_archive : new ≡ old → ShowsContent m file label old new (Ok shows_nothing) 0
+-- What is shown of a part that is selected: nothing of an entry that is out of the file; nothing of an archive without members; the file
+-- itself, or what is within it under its own name and label; or nothing, since it can't be read or memory ran out.
+pub data ShowsPartAs {W B : Type 0} (m : Manner W B) (file : List ℕ) (label : LabelView) (old new : BufWriter (Titled W) B)
+    : Option OutOfFile → Result PartShown Fault → (status : ℕ) → Type 0 where
+  outside_part : (outside : OutOfFile) (part : Result PartShown Fault) → new ≡ old → ShowsPartAs m file label old new (Some outside) part 1
+  empty_archive : new ≡ old → ShowsPartAs m file label old new None (Ok shows_nothing) 0
   the_file : (bytes : List ℕ) (status : ℕ) → ShowsTitled m m.are_several (file_itself file) bytes old new status
-      → ShowsContent m file label old new (Ok (shows_file bytes)) status
+      → ShowsPartAs m file label old new None (Ok (shows_file bytes)) status
   within_it : (name bytes : List ℕ) (status : ℕ) → ShowsTitled m true (record { file = file; name = name; label = label }) bytes old new status
-      → ShowsContent m file label old new (Ok (shows_within name bytes)) status
-  refused_part : (part : Result PartShown Fault) (e : Error) → FailsAs e part → new ≡ old → ShowsContent m file label old new part 1
+      → ShowsPartAs m file label old new None (Ok (shows_within name bytes)) status
+  refused_part : (part : Result PartShown Fault) (e : Error) → FailsAs e part → new ≡ old → ShowsPartAs m file label old new None part 1
 
--- What is shown of a part that is selected. It is nothing of an entry that is out of the file.
-pub data ShowsPart {W B : Type 0} (m : Manner W B) (file bytes : List ℕ) (x : ItemView) (old new : BufWriter (Titled W) B) : (status : ℕ) → Type 0 where
-  inside_part : (status : ℕ) → outside_at arch_form_64 bytes x.place.entry ≡ None
-      → ShowsContent m file (label_of x.place x.content) old new (shown_in file x.place.entry x.content) status
-      → ShowsPart m file bytes x old new status
-  outside_part : (outside : OutOfFile) → outside_at arch_form_64 bytes x.place.entry ≡ Some outside → new ≡ old
-      → ShowsPart m file bytes x old new 1
+abbrev pub ShowsPart : {W B : Type 0} → Manner W B → (file bytes : List ℕ) → ItemView → (old new : BufWriter (Titled W) B) → (status : ℕ) → Type 0
+ShowsPart m file bytes x old new status =
+    ShowsPartAs m file (label_of x.place x.content) old new (outside_at arch_form_64 bytes x.place.entry) (shown_in file x.place.entry x.content) status
 
 -- The status of a file by its parts: 1 at least if the limit leaves out some that are selected, or if entries are left out.
 abbrev pub parts_status : Files → (bytes : List ℕ) → (status : ℕ) → ℕ

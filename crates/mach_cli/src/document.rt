@@ -220,7 +220,8 @@ impl<V: ImageView, K: Sink> Document<'_, V, K> {
 
     // Begins an image with this label, apart from those before it.
     fn begin<O: Write>(&self, is_first: bool, label: Label<'_>, out: &mut O) -> io::Result<()>
-        ensures { OnOk result (Appends (O.contents out.old) (O.contents out.new) (item_front K.texts self.now.names.file.now is_first (label_view label.entry))) }
+        ensures { OnOk result (Appends (O.contents out.old) (O.contents out.new)
+            (item_front K.texts self.now.names.file.now is_first (label_view label.entry))) }
     {
         if is_first {
             return self.sink.begin_image(self.names.file, label, out);

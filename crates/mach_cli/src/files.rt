@@ -2,12 +2,11 @@
 
 ghost use Rattle.std.specs.Prelude.{◌≡◌, ◌≤◌, max, true, IfErr, IfOk};
 ghost use Rattle.goblin_mach.specs.ItemsLeft.{input_item_read};
-ghost use Rattle.mach_cli.specs.Labels.{label_of, label_view};
+ghost use Rattle.mach_cli.specs.Labels.{label_view};
 ghost use Rattle.mach_cli.specs.Selected.{within_left};
 ghost use Rattle.mach_cli.specs.InOrder.{InOrder};
-ghost use Rattle.mach_cli.specs.ShownCalls.{manner_in, ShowsBytes, ShowsContent, ShowsFiles, ShowsFilesBy, ShowsList, ShowsListed, ShowsNamed, ShowsPart, ShowsTitled};
+ghost use Rattle.mach_cli.specs.ShownCalls.{manner_in, ShowsBytes, ShowsFiles, ShowsFilesBy, ShowsList, ShowsListed, ShowsNamed, ShowsPart, ShowsTitled};
 ghost use Rattle.mach_cli.specs.ShownCalls.{file_itself, have_title, no_text_status};
-ghost use Rattle.mach_cli.specs.ShownParts.{shown_in};
 ghost use Rattle.mach_cli.specs.Statuses.{IsStatus, IsUnwritten};
 
 use crate::cpu::Cpu;
@@ -66,11 +65,11 @@ pub struct Files {
 }
 
 // The standard output of a call.
-type Out<W, B> = BufWriter<Titled<W>, B>;
+type Out<W, B: Allocator> = BufWriter<Titled<W>, B>;
 
 // A run over the files of a call.
-#[derive(Clone, Copy)]
-struct Run<'r, S, W, B> {
+#[derive(Drop)]
+struct Run<'r, S, W: Write + Drop, B: Allocator> {
     rt: &'r HostRuntime,
     files: Files,
     // Whether there may be several files.
@@ -79,7 +78,7 @@ struct Run<'r, S, W, B> {
     is_nm: bool,
     // What is shown of each.
     shows: &'r S,
-    out: PhantomData<(W, B)>,
+    out: PhantomData<Out<W, B>>,
 }
 
 // Returns the status of a file that is shown. After a failed write nothing else is shown: its status is an error.
@@ -310,14 +309,14 @@ impl<S: FileView<BufWriter<Titled<W>, B>>, W: Write + Drop, B: Allocator> Run<'_
     {
         let mut worst = 0u8;
         'parts: for part in parts {
-            let status = self.show_placed(file, bytes, part, out)?;
+            let status = self.show_part(file, bytes, part, out)?;
             worst = worse(worst, status);
         }
         Ok(worst)
     }
 
     // Shows a part of a file that is selected, if it is not out of the file, and returns the status.
-    fn show_placed(
+    fn show_part(
         &self,
         file: &str,
         bytes: &[u8],
@@ -327,27 +326,17 @@ impl<S: FileView<BufWriter<Titled<W>, B>>, W: Write + Drop, B: Allocator> Run<'_
         ensures shown { IfOk result (ShowsPart (manner_in S.shows self.now) file.now bytes.now (input_item_read part.entry) out.old out.new) }
         ensures unwritten { IfErr result IsUnwritten }
     {
+        let (rt, label) = (self.rt, Label::of(&part));
         match outside_at::<FatArch64>(bytes, part.place.entry) {
-            None => self.show_part(file, part, out),
-            Some(outside) => Ok(self.refuse(file, Label::of(&part), Refusal::OutOfFile(outside))),
-        }
-    }
-
-    // Shows a part of a file, and returns the status.
-    fn show_part(&self, file: &str, part: InputItem<'_>, out: &mut Out<W, B>) -> Result<u8, u8>
-        ensures shown { let x = input_item_read part.entry in IfOk result (
-            ShowsContent (manner_in S.shows self.now) file.now (label_of x.place x.content) out.old out.new (shown_in file.now x.place.entry x.content)) }
-        ensures unwritten { IfErr result IsUnwritten }
-    {
-        let rt = self.rt;
-        let label = Label::of(&part);
-        match shown_part(rt.alloc(), file, part) {
-            Ok(ShownPart::Nothing) => Ok(0),
-            Ok(ShownPart::Itself(bytes)) => self.show_itself(file, bytes, out),
-            Ok(ShownPart::Within(name, bytes)) => {
-                self.show_named(file, name.as_str(), label, bytes, true, out)
-            }
-            Err(error) => Ok(self.refuse(file, label, Refusal::Fault(describe(&error)))),
+            Some(outside) => Ok(self.refuse(file, label, Refusal::OutOfFile(outside))),
+            None => match shown_part(rt.alloc(), file, part) {
+                Ok(ShownPart::Nothing) => Ok(0),
+                Ok(ShownPart::Itself(bytes)) => self.show_itself(file, bytes, out),
+                Ok(ShownPart::Within(name, bytes)) => {
+                    self.show_named(file, name.as_str(), label, bytes, true, out)
+                }
+                Err(error) => Ok(self.refuse(file, label, Refusal::Fault(describe(&error)))),
+            },
         }
     }
 

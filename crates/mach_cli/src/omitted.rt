@@ -4,8 +4,9 @@ ghost use Rattle.std.specs.Prelude.{◌≡◌, ◌==◌, ◌&&◌, not, OnOk};
 ghost use Rattle.std.specs.Io.KnownBytes.{Appends};
 ghost use Rattle.mach_cli.specs.Names.{names_text};
 ghost use Rattle.mach_cli.specs.PartsOf.{parts_left};
+ghost use Rattle.mach_cli.specs.Refusals.{refusal_reason};
 ghost use Rattle.mach_cli.specs.Selected.{omitted_of};
-ghost use Rattle.mach_cli.specs.Shown.{left_out_line, limit_line, omitted_lines};
+ghost use Rattle.mach_cli.specs.Shown.{line_if, omitted_lines};
 
 use crate::bounds::most_images;
 use crate::cpu::Cpu;
@@ -49,33 +50,32 @@ impl Omitted {
 
     /// Reports what is, in a line or two on `err`.
     pub fn report<E: Write>(&self, names: Names<'_>, err: &mut E) -> io::Result<()>
-        ensures { let o = self.now in OnOk result (Appends (E.contents err.old) (E.contents err.new)
-            (omitted_lines (names_text names.entry.program.now names.entry.file.now) o.limit o.is_cut o.left_out)) }
-    {
-        self.report_cut(names, err)?;
-        self.report_left_out(names, err)
-    }
-
-    // Reports that the limit leaves out some images, if so.
-    fn report_cut<E: Write>(&self, names: Names<'_>, err: &mut E) -> io::Result<()>
         ensures { OnOk result (Appends (E.contents err.old) (E.contents err.new)
-            (limit_line (names_text names.entry.program.now names.entry.file.now) self.now.limit self.now.is_cut)) }
+            (omitted_lines (names_text names.entry.program.now names.entry.file.now) self.now)) }
     {
-        if !self.is_cut {
-            return Ok(());
-        }
         let count = most_images(self.limit);
-        complain(names, Label::None, Refusal::Limit(count), err)
+        complain_if(self.is_cut, names, Refusal::Limit(count), err)?;
+        complain_if(
+            self.left_out > 0,
+            names,
+            Refusal::LeftOut(self.left_out),
+            err,
+        )
     }
+}
 
-    // Reports how many entries are left out, if there are some.
-    fn report_left_out<E: Write>(&self, names: Names<'_>, err: &mut E) -> io::Result<()>
-        ensures { OnOk result (Appends (E.contents err.old) (E.contents err.new)
-            (left_out_line (names_text names.entry.program.now names.entry.file.now) self.now.left_out)) }
-    {
-        if self.left_out == 0 {
-            return Ok(());
-        }
-        complain(names, Label::None, Refusal::LeftOut(self.left_out), err)
+// Reports a refusal of a file in a line on `err`, if it occurs.
+fn complain_if<E: Write>(
+    occurs: bool,
+    names: Names<'_>,
+    refusal: Refusal<'_>,
+    err: &mut E,
+) -> io::Result<()>
+    ensures { OnOk result (Appends (E.contents err.old) (E.contents err.new)
+        (line_if (names_text names.entry.program.now names.entry.file.now) occurs (refusal_reason refusal.entry))) }
+{
+    if !occurs {
+        return Ok(());
     }
+    complain(names, Label::None, refusal, err)
 }

@@ -26,14 +26,12 @@ pub fn is_for(cpu: Cpu, place: &ItemPlace) -> bool
 pub fn is_missed(cpu: Cpu, parts: Parts<'_>) -> bool
     ensures { result ≡ are_missed cpu (parts_left parts.entry) }
 {
-    let mut is_any = false;
-    'parts: for part in parts {
-        if is_for(cpu, &part.place) {
-            return false;
-        }
-        is_any = true;
+    let (mut all, room) = (parts, 0);
+    let mut selected = SelectedParts { cpu, room, parts };
+    match all.next() {
+        None => false,
+        Some(_) => selected.next_selected().is_none(),
     }
-    is_any
 }
 
 /// Whether more parts are selected than a limit allows.

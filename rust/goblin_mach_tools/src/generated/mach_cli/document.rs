@@ -179,9 +179,10 @@ impl<V: ImageView, K: Sink> Document<'_, V, K> {
 
     // Begins an image with this label, apart from those before it.
     fn begin<O: Write>(&self, is_first: bool, label: Label<'_>, out: &mut O) -> io::Result<()> {
-        if !is_first {
-            self.sink.separate(out)?;
+        if is_first {
+            return self.sink.begin_image(self.names.file, label, out);
         }
+        self.sink.separate(out)?;
         self.sink.begin_image(self.names.file, label, out)
     }
 

@@ -59,11 +59,10 @@ pub struct Files {
 }
 
 // The standard output of a call.
-type Out<W, B> = BufWriter<Titled<W>, B>;
+type Out<W> = BufWriter<Titled<W>>;
 
 // A run over the files of a call.
-#[derive(Clone, Copy)]
-struct Run<'r, S, W, B> {
+struct Run<'r, S, W: Write> {
     rt: &'r HostRuntime,
     files: Files,
     // Whether there may be several files.
@@ -72,7 +71,7 @@ struct Run<'r, S, W, B> {
     is_nm: bool,
     // What is shown of each.
     shows: &'r S,
-    out: PhantomData<(W, B)>,
+    out: PhantomData<Out<W>>,
 }
 
 // Returns the status of a file that is shown. After a failed write nothing else is shown: its status is an error.
@@ -278,37 +277,31 @@ impl<S: FileView<BufWriter<Titled<W>>>, W: Write> Run<'_, S, W> {
     ) -> Result<u8, u8> {
         let mut worst = 0u8;
         for part in parts {
-            let status = self.show_placed(file, bytes, part, out)?;
+            let status = self.show_part(file, bytes, part, out)?;
             worst = worse(worst, status);
         }
         Ok(worst)
     }
 
     // Shows a part of a file that is selected, if it is not out of the file, and returns the status.
-    fn show_placed(
+    fn show_part(
         &self,
         file: &str,
         bytes: &[u8],
         part: InputItem<'_>,
         out: &mut Out<W>,
     ) -> Result<u8, u8> {
+        let (rt, label) = (self.rt, Label::of(&part));
         match outside_at::<FatArch64>(bytes, part.place.entry) {
-            None => self.show_part(file, part, out),
-            Some(outside) => Ok(self.refuse(file, Label::of(&part), Refusal::OutOfFile(outside))),
-        }
-    }
-
-    // Shows a part of a file, and returns the status.
-    fn show_part(&self, file: &str, part: InputItem<'_>, out: &mut Out<W>) -> Result<u8, u8> {
-        let rt = self.rt;
-        let label = Label::of(&part);
-        match shown_part(file, part) {
-            Ok(ShownPart::Nothing) => Ok(0),
-            Ok(ShownPart::Itself(bytes)) => self.show_itself(file, bytes, out),
-            Ok(ShownPart::Within(name, bytes)) => {
-                self.show_named(file, name.as_str(), label, bytes, true, out)
-            }
-            Err(error) => Ok(self.refuse(file, label, Refusal::Fault(describe(&error)))),
+            Some(outside) => Ok(self.refuse(file, label, Refusal::OutOfFile(outside))),
+            None => match shown_part(file, part) {
+                Ok(ShownPart::Nothing) => Ok(0),
+                Ok(ShownPart::Itself(bytes)) => self.show_itself(file, bytes, out),
+                Ok(ShownPart::Within(name, bytes)) => {
+                    self.show_named(file, name.as_str(), label, bytes, true, out)
+                }
+                Err(error) => Ok(self.refuse(file, label, Refusal::Fault(describe(&error)))),
+            },
         }
     }
 

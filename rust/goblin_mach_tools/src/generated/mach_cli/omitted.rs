@@ -28,7 +28,7 @@ impl Omitted {
     ///
     /// <details><summary>Proved</summary>
     ///
-    /// - `result ≡ record { limit = limit; is_cut = are_more (most_images limit) cpu (parts_left parts.entry); left_out = left_out }`
+    /// - `result ≡ omitted_of limit cpu (parts_left parts.entry) left_out`
     ///
     /// </details>
     pub fn of(limit: usize, cpu: Cpu, parts: Parts<'_>, left_out: usize) -> Omitted {
@@ -54,28 +54,30 @@ impl Omitted {
     ///
     /// <details><summary>Proved</summary>
     ///
-    /// - `let o = self in OnOk result (Appends (E.contents err.old) (E.contents err.new) (omitted_lines (names_text names.entry.program names.entry.file) o.limit o.is_cut o.left_out))`
+    /// - if `Ok`: `Appends (E.contents err.old) (E.contents err.new) (omitted_lines (names_text names.entry.program names.entry.file) self)`
     ///
     /// </details>
     pub fn report<E: Write>(&self, names: Names<'_>, err: &mut E) -> io::Result<()> {
-        self.report_cut(names, err)?;
-        self.report_left_out(names, err)
-    }
-
-    // Reports that the limit leaves out some images, if so.
-    fn report_cut<E: Write>(&self, names: Names<'_>, err: &mut E) -> io::Result<()> {
-        if !self.is_cut {
-            return Ok(());
-        }
         let count = most_images(self.limit);
-        complain(names, Label::None, Refusal::Limit(count), err)
+        complain_if(self.is_cut, names, Refusal::Limit(count), err)?;
+        complain_if(
+            self.left_out > 0,
+            names,
+            Refusal::LeftOut(self.left_out),
+            err,
+        )
     }
+}
 
-    // Reports how many entries are left out, if there are some.
-    fn report_left_out<E: Write>(&self, names: Names<'_>, err: &mut E) -> io::Result<()> {
-        if self.left_out == 0 {
-            return Ok(());
-        }
-        complain(names, Label::None, Refusal::LeftOut(self.left_out), err)
+// Reports a refusal of a file in a line on `err`, if it occurs.
+fn complain_if<E: Write>(
+    occurs: bool,
+    names: Names<'_>,
+    refusal: Refusal<'_>,
+    err: &mut E,
+) -> io::Result<()> {
+    if !occurs {
+        return Ok(());
     }
+    complain(names, Label::None, refusal, err)
 }

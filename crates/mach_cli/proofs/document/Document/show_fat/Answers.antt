@@ -42,13 +42,14 @@ returns g c = λ table has items.
     (c.of-items.ensures ∙ ap (parts_within (most_images d.limit) d.cpu) parts) some.shows)
     in
     record {
-      shown = fat_of w o.limit o.is_cut o.left_out some.shown;
-      shows = subst (λ (omitted : Omitted). ShowsFile w d.cpu d.limit bytes (fat_of w omitted.limit omitted.is_cut omitted.left_out some.shown)) (sym is) fat;
+      shown = fat_of w o some.shown;
+      shows = subst (λ (omitted : Omitted). ShowsFile w d.cpu d.limit bytes (fat_of w omitted some.shown)) (sym is) fat;
       whole = ap (λ first. first && (not o.is_cut && (o.left_out == 0))) some.whole
           ∙ ap (λ second. c.in_ok-outcome.outcome.whole && second) (sym c.is_nothing.ensures);
       left = some.left;
       text = three _ _ _ _ (k.file_front o.left_out) some.shown.text (k.file_end o.is_cut (codes "fat file") w.file)
-          (subst (λ (count : ℕ). Appends (g.O.Write.contents c.args.out.now) (g.O.Write.contents c.begin_file.new.out) (k.file_front count)) (sym (ap (λ (omitted : Omitted). omitted.left_out) c.of-omitted.ensures))
+          (subst (λ (count : ℕ). Appends (g.O.Write.contents c.args.out.now) (g.O.Write.contents c.begin_file.new.out) (k.file_front count))
+          (sym (ap (λ (omitted : Omitted). omitted.left_out) c.of-omitted.ensures))
           c.in_ok-begin_file.ensures) some.text c.in_ok-end_file.ensures;
-      message = Appends-both _ _ _ some.shown.message (omitted_lines w.names o.limit o.is_cut o.left_out) some.message c.in_ok-report.ensures;
+      message = Appends-both _ _ _ some.shown.message (omitted_lines w.names o) some.message c.in_ok-report.ensures;
     }

@@ -16,7 +16,8 @@ returns-in-None g c =
     let label = label_view c.args.label in
     prints_as c.show_item.result _ _ _ _ (ShowsItem w c.args.left label None x.content)
     (ShowsItem w c.args.left label (outside_at arch_form_32 c.args.bytes.now x.place.entry) x.content)
-    (λ shown shows. subst (λ (outside : Option OutOfFile). ShowsItem w c.args.left label outside x.content shown) (sym c.in-None.is ∙ c.outside_at.ensures) shows)
+    (λ shown shows. subst (λ (outside : Option OutOfFile). ShowsItem w c.args.left label outside x.content shown)
+    (sym c.in-None.is ∙ c.outside_at.ensures) shows)
     c.show_item.ensures
 
 pub returns-in-Some : goal.returns-in-Some

@@ -21,7 +21,7 @@ parts-preserved g c =
     let P = ShowsPart m c.args.file.now c.args.bytes.now in
     let all = within_left c.args.parts in
     let rest = within_left c.next.new.self in
-    let there = c.show_placed.new.out in
+    let there = c.show_part.new.out in
     subst (Completes P all c.args.out.now rest there) (sym c.worse-worst.ensures)
     (one_more P all c.args.out.now c.parts.out there (within_left c.parts.part-iterator) (input_item_read c.in-Some.part) rest c.parts.worst
     c.in_ok-status.status c.in-Some.ensures.steps c.parts.invariant c.in_ok-status.ensures.shown)
