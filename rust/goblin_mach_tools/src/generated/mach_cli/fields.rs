@@ -7,6 +7,9 @@ use crate::generated::mach_cli::digits::{
 };
 use crate::generated::mach_cli::escaped::{print_escaped, print_wide_escaped};
 use crate::generated::mach_cli::json::text::print_string;
+use crate::generated::mach_cli::record_fields::{
+    RecordFields, print_record_members, print_record_pairs,
+};
 use crate::shim::io;
 use crate::shim::io::Write;
 use core::fmt;
@@ -304,6 +307,20 @@ pub trait FieldsForm {
         others: &[Field<'_>],
         out: &mut O,
     ) -> io::Result<()>;
+
+    /// Writes an item with a first field, these, and those of a load command's record after them.
+    ///
+    /// <details><summary>Proved</summary>
+    ///
+    /// - if `Ok`: `Appends (O.contents out.old) (O.contents out.new) (fields_text (field_view first ∷ (map field_view fields ++ map named_value (shown_left shown.entry))))`
+    ///
+    /// </details>
+    fn write_record<O: Write>(
+        first: &Field<'_>,
+        fields: &[Field<'_>],
+        shown: RecordFields<'_>,
+        out: &mut O,
+    ) -> io::Result<()>;
 }
 
 /// A line: the fields in the order of their columns, a space between two.
@@ -317,6 +334,15 @@ impl FieldsForm for Line {
         out: &mut O,
     ) -> io::Result<()> {
         print_columns(fields, others, &COLUMNS, out)
+    }
+
+    fn write_record<O: Write>(
+        first: &Field<'_>,
+        fields: &[Field<'_>],
+        _shown: RecordFields<'_>,
+        out: &mut O,
+    ) -> io::Result<()> {
+        print_columns(&[*first], fields, &COLUMNS, out)
     }
 }
 
@@ -333,6 +359,16 @@ impl FieldsForm for Pairs {
         print_columns(fields, others, &COLUMNS, out)?;
         print_pairs(fields, out)?;
         print_pairs(others, out)
+    }
+
+    fn write_record<O: Write>(
+        first: &Field<'_>,
+        fields: &[Field<'_>],
+        shown: RecordFields<'_>,
+        out: &mut O,
+    ) -> io::Result<()> {
+        Pairs::write_both(&[*first], fields, out)?;
+        print_record_pairs(shown, out)
     }
 }
 
@@ -354,6 +390,17 @@ impl FieldsForm for Object {
             ([], [first, next @ ..]) => print_opened(first, next, out)?,
             ([], []) => out.write_all(b"{")?,
         }
+        out.write_all(b"}")
+    }
+
+    fn write_record<O: Write>(
+        first: &Field<'_>,
+        fields: &[Field<'_>],
+        shown: RecordFields<'_>,
+        out: &mut O,
+    ) -> io::Result<()> {
+        print_opened(first, fields, out)?;
+        print_record_members(shown, out)?;
         out.write_all(b"}")
     }
 }
@@ -416,8 +463,14 @@ fn print_pairs<O: Write>(fields: &[Field<'_>], out: &mut O) -> io::Result<()> {
     Ok(())
 }
 
-// Prints a field after its name, if it has no column.
-fn print_pair<O: Write>(field: &Field<'_>, out: &mut O) -> io::Result<()> {
+/// Prints a field after its name, if it has no column.
+///
+/// <details><summary>Proved</summary>
+///
+/// - if `Ok`: `Appends (O.contents out.old) (O.contents out.new) (pair_field (field_view field))`
+///
+/// </details>
+pub fn print_pair<O: Write>(field: &Field<'_>, out: &mut O) -> io::Result<()> {
     if field.column != 0 || field.name.is_empty() {
         return Ok(());
     }
@@ -442,8 +495,14 @@ fn print_member<O: Write>(field: &Field<'_>, out: &mut O) -> io::Result<()> {
     print_in_object(field.value, out)
 }
 
-// Prints a field as a member after a comma, if it has a name.
-fn print_next_member<O: Write>(field: &Field<'_>, out: &mut O) -> io::Result<()> {
+/// Prints a field as a member after a comma, if it has a name.
+///
+/// <details><summary>Proved</summary>
+///
+/// - if `Ok`: `Appends (O.contents out.old) (O.contents out.new) (comma_member (field_view field))`
+///
+/// </details>
+pub fn print_next_member<O: Write>(field: &Field<'_>, out: &mut O) -> io::Result<()> {
     if field.name.is_empty() {
         return Ok(());
     }

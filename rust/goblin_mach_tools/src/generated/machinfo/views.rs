@@ -102,22 +102,8 @@ fn print_imports<O: Write>(
 // Whether the lines of a word's list have the names of fields.
 fn has_names(word: Word) -> bool {
     match word {
-        Word::Commands => true,
-        Word::CommandsAlone => true,
-        Word::Starts => false,
-        Word::Slots => false,
-        Word::Indirect => false,
-        Word::Data => false,
-        Word::Options => false,
-        Word::Tools => false,
-        Word::Notes => false,
-        Word::Providers => false,
-        Word::Libraries => false,
-        Word::Rebases => false,
-        Word::Weak => false,
-        Word::Part(Part::Header) => true,
-        Word::Part(_) => false,
-        Word::Security => false,
+        Word::Commands | Word::CommandsAlone | Word::Part(Part::Header) => true,
+        _ => false,
     }
 }
 
