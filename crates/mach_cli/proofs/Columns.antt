@@ -1,11 +1,12 @@
 -- Where the fields of each column of a line are.
-use Rattle.std.proofs.Common.{◌≡◌, ◌∙◌, ◌⊎◌, ◌≤◌, ◌<◌, ◌+◌, ◌-◌, ◌==◌, ℕ, zero, suc, List, [], ◌∷◌, ◌++◌, cond, inl, inr, true, false, get_or, length, set, length-drop, drop-drop, append-nil}
+use Rattle.std.proofs.Common.{◌≡◌, ◌∙◌, ◌⊎◌, ◌≤◌, ◌<◌, ◌+◌, ◌-◌, ◌==◌, ℕ, suc, List, [], ◌∷◌, ◌++◌, cond, inl, inr, false}
+use Rattle.std.proofs.Common.{append-nil, drop-drop, get_or, length, length-drop, set}
 use Rattle.std.proofs.Common.{Option, None, Some, MatchOption, unwrap_or, map, take, drop, ⊎_elim, refl, sym, ap, subst, arith}
 use Rattle.std.proofs.lemmas.Bool.{ne_eqb}
 use Rattle.std.proofs.lemmas.Bool.Decides.{eqb_tells}
 use Rattle.std.proofs.lemmas.Grind.{flat_map-append, get_or-set_at}
 use Rattle.std.proofs.lemmas.List.{drop-map, get_or-drop, get_or-set_other, get_or-take, length-set, length-take, take-append-drop, take-map}
-use Rattle.mach_cli.specs.Fields.{AreSpans, FieldView, column_field, column_text}
+use Rattle.mach_cli.specs.Fields.{FieldView, column_field, column_text}
 
 -- ---- spans
 
@@ -77,7 +78,7 @@ module _ (columns starts ends : List ℕ) (i slot start : ℕ) (old : IsSpanned 
 -- ---- fields of a column
 
 -- fields of other columns have no text in this one
-none_of_column : (fs : List FieldView) (c : ℕ) → ((k : ℕ) → k < length fs → get_or (map (λ f. f.column) fs) k 0 ≡ c → ⊥) → column_text fs c ≡ []
+pub none_of_column : (fs : List FieldView) (c : ℕ) → ((k : ℕ) → k < length fs → get_or (map (λ f. f.column) fs) k 0 ≡ c → ⊥) → column_text fs c ≡ []
 none_of_column [] c none = refl
 none_of_column (f ∷ fs) c none =
     let other : (f.column == c) ≡ false = ne_eqb f.column c (λ e. none 0 (omega arith) e) in

@@ -1,6 +1,6 @@
 -- What is shown of an item of a list, field by field: as a line of text, or as an object of JSON (RFC 8259, 4).
 use Rattle.std.specs.Prelude.{◌≡◌, ◌≤◌, ◌<◌, ◌==◌, ◌&&◌, ◌++◌, ◌∷◌, ◌-◌, ◌^◌, ℕ, ℤ, List, [], codes, length, Bool, true, false, not, Option, Some, None}
-use Rattle.std.specs.Prelude.{get_or, option_map, if◌then◌else◌}
+use Rattle.std.specs.Prelude.{get_or, if◌then◌else◌}
 use Rattle.std.specs.Fmt.{decimal, digits, format_spec, padded_integral, signed_decimal, styled_decimal, styled_text}
 use Rattle.std.specs.List.{flat_map}
 use Rattle.std.specs.Str.{chars}

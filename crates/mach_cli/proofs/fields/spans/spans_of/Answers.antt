@@ -1,4 +1,4 @@
-use Rattle.std.proofs.Common.{◌≡◌, ◌∙◌, ◌<◌, get_or, length, map, ap, arith, sym}
+use Rattle.std.proofs.Common.{◌∙◌, ◌<◌, map, arith, sym}
 use Rattle.std.proofs.lemmas.List.{get_or-map, length-map}
 use Rattle.mach_cli.specs.Fields.{column_of}
 use Rattle.mach_cli.proofs.Columns.{spanned_more}
@@ -13,4 +13,8 @@ fields-preserved c =
 
 pub returns : goal.returns
 returns c =
-    record { lies = λ column index few inside is. c.fields.invariant.lies column index few (omega (arith, inside, length-map c.args.fields.now column_of, c.fields-test.false, c.fields.auto.index-end)) is }
+    record {
+      lies = λ column index few inside is.
+          let here : index < c.fields.index = omega (arith, inside, length-map c.args.fields.now column_of, c.fields-test.false, c.fields.auto.index-end) in
+          c.fields.invariant.lies column index few here is;
+    }

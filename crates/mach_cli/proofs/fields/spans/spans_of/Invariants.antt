@@ -1,4 +1,4 @@
-use Rattle.std.proofs.Common.{take, map}
+use Rattle.std.proofs.Common.{map}
 use Rattle.mach_cli.specs.Fields.{column_of}
 use Rattle.mach_cli.proofs.Columns.{IsSpanned}
 use Rattle.mach_cli.proofs.fields.spans.spans_of.Given as goal

@@ -48,6 +48,10 @@ pub(crate) fn fields_in<'a, 'b>(
     if column >= 10 {
         return fields;
     }
-    let part = fields.get(spans.starts[column]..spans.ends[column]);
+    let end = spans.ends[column];
+    if end == 0 {
+        return &fields[..0];
+    }
+    let part = fields.get(spans.starts[column]..end);
     part.unwrap_or(fields)
 }
