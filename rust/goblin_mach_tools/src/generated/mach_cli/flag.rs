@@ -133,6 +133,12 @@ impl Program {
     }
 
     /// Returns its word or option that was probably meant in place of an unknown one, if one is near and memory doesn't run out.
+    ///
+    /// <details><summary>Proved</summary>
+    ///
+    /// - if `Some(name)`: `IfSome (unknown_in misuse.entry) (λ word. IsNear word name)`
+    ///
+    /// </details>
     pub fn meant(&self, misuse: Misuse<'_>) -> Option<&'static str> {
         self.meant_by(misuse.unknown()?).unwrap_or(None)
     }

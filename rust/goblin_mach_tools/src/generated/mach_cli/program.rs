@@ -89,12 +89,13 @@ impl Program {
         }
     }
 
-    /// Returns standard output for this form, coloured if `color` says so. If memory runs out that is reported, and the error is
-    /// the exit status.
+    /// Returns standard output for this form, coloured if `color` says so. Nothing is in it yet. If memory runs out that is
+    /// reported, and the error is the exit status.
     ///
     /// <details><summary>Proved</summary>
     ///
     /// - *status*: if `Err(status)`: `status ≡ 1`
+    /// - *fresh*: if `Ok(x)`: `IsFresh x`
     /// - *json*: if `is_json format ≡ true`, if `Ok(out)`: `is_colouring (painter_in out) ≡ false`
     /// - *never*: if `color ≡ Color.Never`, if `Ok(out)`: `is_colouring (painter_in out) ≡ false`
     /// - *always*: if `color ≡ Color.Always`, if `is_json format ≡ false`, if `Ok(out)`: `is_colouring (painter_in out) ≡ true`

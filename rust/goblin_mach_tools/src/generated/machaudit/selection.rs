@@ -47,7 +47,7 @@ enum Selected {
 /// - *bounds*: if `Ok(status)`: `status ≤ 1`
 /// - *sound*: if `Ok(status)`: if `status ≡ 0`, `IsSoundFor cpu bytes`
 /// - *faulty*: if `Ok(status)`: if `status ≡ 1`, `FailsFor cpu call.entry.options.limit bytes ⊎ MissesAll cpu bytes`
-/// - *written*: if `Ok(x)`: `WritesAudit W.contents call.entry.options cpu call.entry.name bytes out.old out.new x`
+/// - *written*: if `Ok(x)`: `WritesAudited W.contents call.entry.options cpu call.entry.name bytes out.old out.new x`
 /// - *memory*: if `Err(e)`: `IfMemory (WritesUntilMemory W.contents call.entry.options cpu call.entry.name bytes out.old out.new) e`
 ///
 /// </details>
