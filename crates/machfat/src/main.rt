@@ -42,6 +42,7 @@ ghost use Rattle.machfat.specs.Commands.{misplaced_option, option_in, shown_name
 ghost use Rattle.machfat.specs.OfCpu.{SaysCpu};
 ghost use Rattle.machfat.specs.Same.{IsOther};
 ghost use Rattle.machfat.specs.ShownFiles.{AreShownWhole, ShowsSelectedFiles};
+ghost use Rattle.machfat.specs.declared.shown.Selected.{Selected};
 ghost use Rattle.mach_fat_writer.specs.declared.form.Form.TheVariants.{Bits32, Bits64};
 
 use arguments::{WIDE, Width};
@@ -217,7 +218,7 @@ fn show_call<W: Write + Drop>(
     files: &[&str],
     out: &mut BufWriter<Titled<W>>,
 ) -> Result<u8, u8>
-    ensures shown { let selected = record { shown = shown; limit = limit_of call.now.limit 10000000 } in
+    ensures shown { let selected : Selected = record { shown = shown; limit = limit_of call.now.limit 10000000 } in
         IfOk result (ShowsSelectedFiles selected W.contents files.now call.now.others out.old out.new) }
     ensures unwritten { IfErr result (λ status. IsUnwritten status) }
 {

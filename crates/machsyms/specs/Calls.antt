@@ -6,7 +6,7 @@ use Rattle.mach_cli.specs.AddressObjects.{AreAddressMembers}
 use Rattle.mach_cli.specs.Bounds.{limit_of}
 use Rattle.mach_cli.specs.Calls.{is_json}
 use Rattle.mach_cli.specs.ShownCalls.{ShowsJson, ShowsNm}
-use Rattle.mach_cli.specs.declared.address.object.AddressObjectsOf.{AddressObjectsOf}
+use Rattle.mach_cli.specs.declared.address.view.AddressObjectsOf.{AddressObjectsOf}
 use Rattle.mach_cli.specs.declared.address.view.AddressLinesOf.{AddressLinesOf}
 use Rattle.mach_cli.specs.declared.call.Call.{Call}
 use Rattle.mach_cli.specs.declared.image_files.ImageFiles.{ImageFiles}
