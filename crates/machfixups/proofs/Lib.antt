@@ -4,3 +4,4 @@ mod KeptFixups
 mod Nearest
 mod TargetSections
 mod Unseen
+mod RebaseLines

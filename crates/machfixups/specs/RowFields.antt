@@ -151,6 +151,18 @@ rebase_fields p target symbol kind auth raw =
     ∷ target_section target
     ∷ []
 
+-- the same that a line has, in the order of their columns
+abbrev pub rebase_line : (place target : PointerPlace) → List FieldView
+rebase_line p target =
+    address_field p
+    ∷ segment_field p
+    ∷ section_field p
+    ∷ kind_field (codes "kind") (codes "rebase")
+    ∷ target_segment target
+    ∷ target_section target
+    ∷ field_of (codes "target") (hex target.address) 6
+    ∷ []
+
 -- what a line has after the symbol at the target
 abbrev pub ending_fields : RebaseKind → Option Auth → (raw : Option ℕ) → List FieldView
 ending_fields kind auth raw = rebase_word kind ∷ signed_flags auth ∷ raw_field raw ∷ []

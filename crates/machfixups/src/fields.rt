@@ -1,6 +1,6 @@
 //! What is shown of a row, field by field.
 
-ghost use Rattle.std.specs.Prelude.{◌≡◌, ◌-◌, ◌++◌, length, map, OnOk};
+ghost use Rattle.std.specs.Prelude.{◌≡◌, ◌-◌, ◌++◌, [], false, length, map, OnOk};
 ghost use Rattle.std.specs.Str.{chars};
 ghost use Rattle.std.specs.Io.KnownBytes.{Appends};
 ghost use Rattle.mach_parts.specs.PointerSigning.{auth_option_view};
@@ -8,7 +8,7 @@ ghost use Rattle.mach_cli.specs.Fields.{field_view, fields_line, value_view};
 ghost use Rattle.mach_dyld.specs.Exports.{text_in};
 ghost use Rattle.machfixups.specs.RowFields.{addend_field, address_field, bind_fields, bind_flags, dash_field, from_field, kind_field, name_or_dash};
 ghost use Rattle.machfixups.specs.RowFields.{rebase_fields, rebase_word, section_field, segment_field, signed_flags, strong_fields, value_fields};
-ghost use Rattle.machfixups.specs.RowFields.{distance_field, ending_fields, pointer_ending, pointer_fields, pointer_line, raw_field, raw_member, symbol_field};
+ghost use Rattle.machfixups.specs.RowFields.{distance_field, ending_fields, pointer_fields, pointer_line, raw_field, raw_member, rebase_line, symbol_field};
 ghost use Rattle.machfixups.specs.RowFields.{symbol_text, target_section, target_segment, weak_fields};
 ghost use Rattle.machfixups.specs.Rows.{bind_view, place_view, row_view};
 ghost use Rattle.machfixups.specs.TargetSymbols.{target_symbol_option_view};
@@ -276,6 +276,21 @@ fn rebase_fields<'a>(
     ]
 }
 
+// Returns the fields of a rebase that a line has up to the target, in the order of their columns.
+fn rebase_line<'a>(place: &Location<'a>, target: &Location<'a>) -> [Field<'a>; 7]
+    ensures { map field_view result ≡ rebase_line (place_view place.now) (place_view target.now) }
+{
+    [
+        address_field(place),
+        segment_field(place),
+        section_field(place),
+        kind_field("kind", "rebase"),
+        target_segment(target),
+        target_section(target),
+        Field::new("target", Value::Hex(target.address), 6),
+    ]
+}
+
 // Returns the fields of a rebase that a line has after the symbol.
 fn ending_fields(
     kind: RebaseKind,
@@ -357,6 +372,17 @@ fn write_symbol<O: Write>(symbol: &Option<TargetSymbol<'_>>, out: &mut O) -> io:
     }
 }
 
+// Whether a line of a rebase has a field after the symbol.
+fn has_ending(kind: RebaseKind, auth: Option<PointerAuth>, raw: Option<u64>) -> bool
+    ensures { result ≡ false → fields_line (ending_fields kind (auth_option_view auth) raw) ≡ [] }
+{
+    match kind {
+        RebaseKind::Pointer => auth.is_some() || raw.is_some(),
+        RebaseKind::TextAbsolute32 => true,
+        RebaseKind::TextRelative32 => true,
+    }
+}
+
 // Writes what a line of a rebase has after the target: the symbol there, and the fields after it.
 fn write_rebase_ending<O: Write>(
     symbol: &Option<TargetSymbol<'_>>,
@@ -369,33 +395,46 @@ fn write_rebase_ending<O: Write>(
         ++ fields_line (ending_fields kind (auth_option_view auth) raw))) }
 {
     write_symbol(symbol, out)?;
+    if !has_ending(kind, auth, raw) {
+        return Ok(());
+    }
     Line::write(&ending_fields(kind, auth, raw), out)
 }
 
-// Writes what a line of a row has after the fields.
-fn write_ending<O: Write>(row: &Row<'_, '_>, out: &mut O) -> io::Result<()>
-    ensures { OnOk result (Appends (O.contents out.old) (O.contents out.new) (pointer_ending (row_view row.now))) }
+// Writes the line of a rebase. Its fields are those of a line alone, in the order of their columns.
+fn write_rebase<O: Write>(
+    place: &Location<'_>,
+    target: &Location<'_>,
+    symbol: &Option<TargetSymbol<'_>>,
+    kind: RebaseKind,
+    auth: Option<PointerAuth>,
+    raw: Option<u64>,
+    out: &mut O,
+) -> io::Result<()>
+    ensures { let seen = target_symbol_option_view symbol.now in OnOk result (Appends (O.contents out.old) (O.contents out.new)
+        (fields_line (rebase_fields (place_view place.now) (place_view target.now) seen kind (auth_option_view auth) raw)
+        ++ (symbol_text seen ++ fields_line (ending_fields kind (auth_option_view auth) raw)))) }
 {
-    match row {
-        Row::At { action, raw, .. } => match action {
-            Action::Rebase {
-                symbol,
-                kind,
-                auth,
-                ..
-            } => write_rebase_ending(symbol, *kind, *auth, *raw, out),
-            Action::Bind(_) => Ok(()),
-            Action::Weak(_) => Ok(()),
-            Action::Value(_) => Ok(()),
-        },
-        Row::Strong(_) => Ok(()),
-    }
+    Line::write(&rebase_line(place, target), out)?;
+    write_rebase_ending(symbol, kind, auth, raw, out)
 }
 
 /// Writes the line of a row, without its end.
 pub fn write_line<O: Write>(row: &Row<'_, '_>, out: &mut O) -> io::Result<()>
     ensures { OnOk result (Appends (O.contents out.old) (O.contents out.new) (pointer_line (row_view row.now))) }
 {
-    write_row::<Line, O>(row, out)?;
-    write_ending(row, out)
+    match row {
+        Row::At { place, action, raw } => match action {
+            Action::Rebase {
+                target,
+                symbol,
+                kind,
+                auth,
+            } => write_rebase(place, target, symbol, *kind, *auth, *raw, out),
+            Action::Bind(_) => write_row::<Line, O>(row, out),
+            Action::Weak(_) => write_row::<Line, O>(row, out),
+            Action::Value(_) => write_row::<Line, O>(row, out),
+        },
+        Row::Strong(_) => write_row::<Line, O>(row, out),
+    }
 }

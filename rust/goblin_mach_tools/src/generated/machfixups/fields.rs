@@ -220,6 +220,19 @@ fn rebase_fields<'a>(
     ]
 }
 
+// Returns the fields of a rebase that a line has up to the target, in the order of their columns.
+fn rebase_line<'a>(place: &Location<'a>, target: &Location<'a>) -> [Field<'a>; 7] {
+    [
+        address_field(place),
+        segment_field(place),
+        section_field(place),
+        kind_field("kind", "rebase"),
+        target_segment(target),
+        target_section(target),
+        Field::new("target", Value::Hex(target.address), 6),
+    ]
+}
+
 // Returns the fields of a rebase that a line has after the symbol.
 fn ending_fields(
     kind: RebaseKind,
@@ -297,6 +310,15 @@ fn write_symbol<O: Write>(symbol: &Option<TargetSymbol<'_>>, out: &mut O) -> io:
     }
 }
 
+// Whether a line of a rebase has a field after the symbol.
+fn has_ending(kind: RebaseKind, auth: Option<PointerAuth>, raw: Option<u64>) -> bool {
+    match kind {
+        RebaseKind::Pointer => auth.is_some() || raw.is_some(),
+        RebaseKind::TextAbsolute32 => true,
+        RebaseKind::TextRelative32 => true,
+    }
+}
+
 // Writes what a line of a rebase has after the target: the symbol there, and the fields after it.
 fn write_rebase_ending<O: Write>(
     symbol: &Option<TargetSymbol<'_>>,
@@ -306,22 +328,24 @@ fn write_rebase_ending<O: Write>(
     out: &mut O,
 ) -> io::Result<()> {
     write_symbol(symbol, out)?;
+    if !has_ending(kind, auth, raw) {
+        return Ok(());
+    }
     Line::write(&ending_fields(kind, auth, raw), out)
 }
 
-// Writes what a line of a row has after the fields.
-fn write_ending<O: Write>(row: &Row<'_, '_>, out: &mut O) -> io::Result<()> {
-    match row {
-        Row::At { action, raw, .. } => match action {
-            Action::Rebase {
-                symbol, kind, auth, ..
-            } => write_rebase_ending(symbol, *kind, *auth, *raw, out),
-            Action::Bind(_) => Ok(()),
-            Action::Weak(_) => Ok(()),
-            Action::Value(_) => Ok(()),
-        },
-        Row::Strong(_) => Ok(()),
-    }
+// Writes the line of a rebase. Its fields are those of a line alone, in the order of their columns.
+fn write_rebase<O: Write>(
+    place: &Location<'_>,
+    target: &Location<'_>,
+    symbol: &Option<TargetSymbol<'_>>,
+    kind: RebaseKind,
+    auth: Option<PointerAuth>,
+    raw: Option<u64>,
+    out: &mut O,
+) -> io::Result<()> {
+    Line::write(&rebase_line(place, target), out)?;
+    write_rebase_ending(symbol, kind, auth, raw, out)
 }
 
 /// Writes the line of a row, without its end.
@@ -332,6 +356,18 @@ fn write_ending<O: Write>(row: &Row<'_, '_>, out: &mut O) -> io::Result<()> {
 ///
 /// </details>
 pub fn write_line<O: Write>(row: &Row<'_, '_>, out: &mut O) -> io::Result<()> {
-    write_row::<Line, O>(row, out)?;
-    write_ending(row, out)
+    match row {
+        Row::At { place, action, raw } => match action {
+            Action::Rebase {
+                target,
+                symbol,
+                kind,
+                auth,
+            } => write_rebase(place, target, symbol, *kind, *auth, *raw, out),
+            Action::Bind(_) => write_row::<Line, O>(row, out),
+            Action::Weak(_) => write_row::<Line, O>(row, out),
+            Action::Value(_) => write_row::<Line, O>(row, out),
+        },
+        Row::Strong(_) => write_row::<Line, O>(row, out),
+    }
 }

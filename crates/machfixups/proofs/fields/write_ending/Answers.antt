@@ -1,4 +1,0 @@
-use Rattle.machfixups.proofs.fields.write_ending.Goals as goal
-
-pub returns-in-Rebase : goal.returns-in-Rebase
-returns-in-Rebase g c = rw (c.in-At.is, c.in-Rebase.is) c.write_rebase_ending.ensures
