@@ -12,7 +12,7 @@ use std::io::Write;
 pub trait ItemList {
     type Item: Drop;
 
-    ghost use Rattle.std.specs.Prelude.{◌≡◌, ◌∷◌, [], List, ℕ, Result, MatchOption, OnOk};
+    ghost use Rattle.std.specs.Prelude.{◌≡◌, ◌∷◌, [], List, Result, MatchOption, OnOk};
     ghost use Rattle.std.specs.Io.KnownBytes.{Appends};
     ghost use Rattle.mach_base.specs.Fault.{Fault};
     ghost use Rattle.mach_base.specs.Items.{read_as};
@@ -23,26 +23,27 @@ pub trait ItemList {
 
     ghost items_left: { Self → List (Result (List FieldView) Fault) };
 
-    // How many more items the whole list claims, with records that begin past the end of the bytes; and what its items are called.
-    ghost items_past: { Self → ℕ } = { λ _. 0 };
-
-    ghost items_name: { Self → List ℕ } = { λ _. [] };
-
     /// Returns the next item, or why it can't be read.
     fn next_item(&mut self) -> Option<goblin_mach::Result<Self::Item>>
         ensures { MatchOption result (items_left self.old ≡ []) (λ item. items_left self.old ≡ read_as fields item ∷ items_left self.new) };
 
-    /// Returns how many more items the whole list claims, with records that begin past the end of the bytes.
-    fn items_past(&self) -> usize
-        ensures { result ≡ items_past self.now };
-
-    /// Returns the plural name of its items, for the line about those past the end.
-    fn items_name(&self) -> &'static str
-        ensures { result.now ≡ items_name self.now };
-
     /// Writes the fields of an item in a form.
     fn write_item<F: FieldsForm, O: Write>(item: &Self::Item, out: &mut O) -> io::Result<()>
         ensures { OnOk result (Appends (O.contents out.old) (O.contents out.new) (F.fields_text (fields item.now))) };
+}
+
+/// How many more items a list claims, with records that begin past the end of the bytes.
+#[derive(Clone, Copy)]
+pub struct PastTheEnd {
+    /// Their number.
+    pub count: usize,
+    /// What such items are called, as a plural.
+    pub name: &'static str,
+}
+
+impl PastTheEnd {
+    /// A list claims no more.
+    pub const NONE: PastTheEnd = PastTheEnd { count: 0, name: "" };
 }
 
 /// A list whose items are written in a form.
@@ -52,6 +53,8 @@ pub struct InForm<L, F> {
     pub list: L,
     /// The form.
     pub form: F,
+    /// How many more items it claims.
+    pub past: PastTheEnd,
 }
 
 impl<L: ItemList, F: FieldsForm> Listing for InForm<L, F> {
@@ -61,9 +64,9 @@ impl<L: ItemList, F: FieldsForm> Listing for InForm<L, F> {
 
     ghost left = { λ s. map (reported_by F.fields_text) (L.items_left s.list) };
 
-    ghost past = { λ s. L.items_past s.list };
+    ghost past = { λ s. s.past.count };
 
-    ghost past_name = { λ s. L.items_name s.list };
+    ghost past_name = { λ s. s.past.name.now };
 
     #[tactic(auto, using(crate::proofs::Formed::formed_next))]
     fn next_row(&mut self) -> Option<goblin_mach::Result<L::Item>> {
@@ -71,11 +74,11 @@ impl<L: ItemList, F: FieldsForm> Listing for InForm<L, F> {
     }
 
     fn past(&self) -> usize {
-        self.list.items_past()
+        self.past.count
     }
 
     fn past_name(&self) -> &'static str {
-        self.list.items_name()
+        self.past.name
     }
 
     fn write_row<O: Write>(row: &L::Item, out: &mut O) -> io::Result<()> {

@@ -9,7 +9,9 @@ ghost use Rattle.machfixups.specs.RowsLeft.{image_rows_left, rows_left};
 
 use crate::lists::ImageRows;
 use crate::rows::Rows;
-use mach_cli::{InForm, ListProgress, Object, Outcome, print_end, print_member, then};
+use mach_cli::{
+    InForm, ListProgress, Object, Outcome, PastTheEnd, print_end, print_member, then,
+};
 use std::alloc::Allocator;
 use std::io;
 use std::io::Write;
@@ -46,6 +48,10 @@ fn write_list<A: Allocator, O: Write>(
 ) -> io::Result<ListProgress>
     ensures { IfOk result (WritesMember name.now limit (texts_reported fields_object (rows_left list.entry)) (O.contents out.old) (O.contents out.new)) }
 {
-    let mut objects = InForm { list, form: Object };
+    let mut objects = InForm {
+        list,
+        form: Object,
+        past: PastTheEnd::NONE,
+    };
     print_member(name, &mut objects, limit, out)
 }

@@ -1,5 +1,6 @@
 -- The rows of each word, by the image that was opened.
-use Rattle.std.proofs.Common.{◌≡◌, ◌-◌, ℕ, List, Result, ap, length, refl, subst}
+use Rattle.std.proofs.Common.{◌≡◌, ◌∷◌, [], ◌-◌, ℕ, List, Option, Result, Ok, ap, length, map, refl, subst}
+use Rattle.std.specs.List.{filter_map}
 use Rattle.mach_base.specs.Items.{items_in_bounds}
 use Rattle.mach_base.specs.Context.{pointer_size}
 use Rattle.mach_base.specs.Fault.{Fault}
@@ -18,7 +19,7 @@ use Rattle.goblin_mach.specs.Fixups.{base_view, chained_view}
 use Rattle.goblin_mach.specs.ImageSlots.{indirect_symbols_in, indirect_table_view, symbol_table_view, image_slots}
 use Rattle.goblin_mach.specs.ImageStreams.{AreImageRebases, AreImageWeakBinds, rebase_stream_in, weak_stream_in}
 use Rattle.goblin_mach.specs.EntryPoint.{EntryPoint}
-use Rattle.goblin_mach.specs.ImageFacts.{facts_view}
+use Rattle.goblin_mach.specs.ImageFacts.{Facts, OfFacts, facts_view}
 use Rattle.goblin_mach.specs.Libraries.{LibraryView, libraries_in}
 use Rattle.goblin_mach.specs.Bindings.{AreImageBindings}
 use Rattle.goblin_mach.specs.OpenImage.{IsImage, binds_view, bytes_view, commands_view, ctx_view, segments_view}
@@ -32,85 +33,127 @@ use Rattle.mach_parts.specs.Segment.{SegmentView}
 use Rattle.goblin_mach.specs.AllStretches.{SegmentStretches, parts_of}
 use Rattle.machinfo.specs.CommandRows.{CommandRowView, rows_of_commands}
 use Rattle.machinfo.specs.Imports.{HasImportFields, fields_of_imports}
-use Rattle.machinfo.specs.NumberedCommands.{NumberedCommandView, numbered_commands_from}
+use Rattle.machinfo.specs.NumberedCommands.{NumberedCommandView, numbered_command_fields, numbered_commands_from}
 use Rattle.machinfo.specs.NumberedNotes.{NumberedNoteView, numbered_notes_from}
 use Rattle.machinfo.specs.ProvidedSymbols.{ProvidedView, provided_in, symbols_past_in}
-use Rattle.machinfo.specs.Lists.{HasRows, as_rows, command_rows_there, commands_there, libraries_there}
-use Rattle.machinfo.specs.Rows.{command_row, start_row, slot_row, indirect_row, data_row, option_row, tool_row, note_row}
-use Rattle.machinfo.specs.Rows.{provided_row, library_row, rebase_row, weak_row, part_row}
-use Rattle.machinfo.specs.Parts.{ArePartRows, PartRowView, past_of_part}
-use Rattle.machinfo.specs.declared.word.Part.{Part}
+use Rattle.machinfo.specs.CommandRowFields.{command_row_fields}
+use Rattle.machinfo.specs.Lists.{HasRows}
+use Rattle.machinfo.specs.PartFields.{entry_part_fields, header_part_fields, one_row, rpath_rows_from, section_part_fields, segment_rows_from, uuid_part_fields}
+use Rattle.machinfo.specs.Parts.{EntryView, IsEntryRow, uuid_row_by}
+use Rattle.machinfo.specs.RowFields.{data_fields, fields_read, finding_fields, indirect_fields, library_fields, note_fields, option_fields}
+use Rattle.machinfo.specs.RowFields.{provided_fields, rebase_row_fields, slot_fields, start_fields, tool_fields, weak_row_fields}
+use Rattle.machinfo.specs.SectionRows.{section_rows_in, sections_past}
+use Rattle.mach_audit.specs.Security.{all_findings}
+use Rattle.mach_audit.specs.declared.security.Finding.{Finding}
+use Rattle.mach_cli.specs.Fields.{FieldView}
+use Rattle.machinfo.specs.declared.parts.UuidRow.{UuidRow}
+use Rattle.machinfo.specs.declared.sections.SectionRow.{SectionRow}
 use Rattle.machinfo.specs.declared.word.Word.TheVariants as words
 
 module _ {A : Type 0} (m : MachO A) (bytes : List ℕ) (o : ℕ) (p : IsImage bytes o m) where
+  -- what holds of the parts of the image holds of those in the bytes
+  of_parts : (Says : Facts → Type 0) → Says (facts_view m) → OfFacts bytes o Says
+  of_parts Says is = (facts_are bytes o m (strict-lossy bytes o m p) Says).1 is
+
   pub starts_are : (items : List (Result ℕ Fault)) → AreStartsAt (bytes_view m) (starts_place_in (commands_view m)) (base_view m) items
-      → HasRows words.Starts bytes o (as_rows start_row items) 0
+      → HasRows words.Starts bytes o (fields_read start_fields items) 0
   starts_are items is = ((items, ((function_starts_are m).strict bytes o p items).1 is, refl), refl)
 
   pub slot_rows : (items : List (Result Slot Fault))
       → items ≡ image_slots (ctx_view m) (indirect_table_view m) (symbol_table_view m) (segments_view m)
-      → HasRows words.Slots bytes o (as_rows slot_row items) 0
+      → HasRows words.Slots bytes o (fields_read slot_fields items) 0
   slot_rows items is = ((items, ((slots_are m).strict bytes o p items).1 is, refl), refl)
 
   pub indirect_rows : (items : List (Result IndirectSymbol Fault)) → items ≡ indirect_symbols_in (indirect_table_view m)
-      → HasRows words.Indirect bytes o (as_rows indirect_row (items_in_bounds items)) (length items - length (items_in_bounds items))
+      → HasRows words.Indirect bytes o (fields_read indirect_fields (items_in_bounds items)) (length items - length (items_in_bounds items))
   indirect_rows items is = (items, ((indirect_symbols_are m).strict bytes o p items).1 is, refl, refl)
 
   pub data_rows : (items : List (Result DataInCodeEntry Fault))
       → items ≡ data_in_code_there (ctx_view m).le (bytes_view m) (data_place_in (commands_view m))
-      → HasRows words.Data bytes o (as_rows data_row (items_in_bounds items)) (length items - length (items_in_bounds items))
+      → HasRows words.Data bytes o (fields_read data_fields (items_in_bounds items)) (length items - length (items_in_bounds items))
   data_rows items is = (items, ((data_in_code_are m).strict bytes o p items).1 is, refl, refl)
 
   pub option_rows : (items : List (Result (ℕ × List ℕ) Fault)) → items ≡ linker_options_in (bytes_view m) (commands_view m)
-      → HasRows words.Options bytes o (as_rows option_row items) 0
+      → HasRows words.Options bytes o (fields_read option_fields items) 0
   option_rows items is = ((items, ((linker_options_are m).strict bytes o p items).1 is, refl), refl)
 
   pub tool_rows : (items : List (Result (ℕ × BuildToolVersion) Fault)) → items ≡ build_tools_in (ctx_view m).le (bytes_view m) (commands_view m)
-      → HasRows words.Tools bytes o (as_rows tool_row items) 0
+      → HasRows words.Tools bytes o (fields_read tool_fields items) 0
   tool_rows items is = ((items, ((build_tools_are m).strict bytes o p items).1 is, refl), refl)
 
   pub command_rows : (items : List CommandRowView)
       → items ≡ rows_of_commands m.header.cputype (numbered_commands_from (ctx_view m).le (bytes_view m) 0 (commands_view m))
-      → HasRows words.Commands bytes o (as_rows command_row (command_rows_there items)) 0
-  command_rows items is = (
-    items,
-    (facts_are bytes o m (strict-lossy bytes o m p)
-        (λ f. items ≡ rows_of_commands f.header.cputype (numbered_commands_from f.ctx.le f.bytes 0 f.commands))).1 is,
-    refl,
-    refl,
-  )
+      → HasRows words.Commands bytes o (map (λ row. Ok (command_row_fields row)) items) 0
+  command_rows items is =
+      ((items, of_parts (λ f. items ≡ rows_of_commands f.header.cputype (numbered_commands_from f.ctx.le f.bytes 0 f.commands)) is, refl), refl)
 
   pub command_rows_alone : (items : List NumberedCommandView) → items ≡ numbered_commands_from (ctx_view m).le (bytes_view m) 0 (commands_view m)
-      → HasRows words.CommandsAlone bytes o (as_rows command_row (commands_there items)) 0
-  command_rows_alone items is =
-      (items, (facts_are bytes o m (strict-lossy bytes o m p) (λ f. items ≡ numbered_commands_from f.ctx.le f.bytes 0 f.commands)).1 is, refl, refl)
+      → HasRows words.CommandsAlone bytes o (map (λ c. Ok (numbered_command_fields c)) items) 0
+  command_rows_alone items is = ((items, of_parts (λ f. items ≡ numbered_commands_from f.ctx.le f.bytes 0 f.commands) is, refl), refl)
 
   pub note_rows : (items : List (Result NumberedNoteView Fault)) → items ≡ numbered_notes_from (bytes_view m) 0 (commands_view m)
-      → HasRows words.Notes bytes o (as_rows note_row items) 0
-  note_rows items is =
-      ((items, (facts_are bytes o m (strict-lossy bytes o m p) (λ f. items ≡ numbered_notes_from f.bytes 0 f.commands)).1 is, refl), refl)
+      → HasRows words.Notes bytes o (fields_read note_fields items) 0
+  note_rows items is = ((items, of_parts (λ f. items ≡ numbered_notes_from f.bytes 0 f.commands) is, refl), refl)
 
   pub provider_rows : (items : List (Result ProvidedView Fault)) → items ≡ provided_in m.header.flags (texts m.libs.items) (symbol_table_view m)
-      → HasRows words.Providers bytes o (as_rows provided_row items) (symbols_past_in (symbol_table_view m))
-  provider_rows items is =
-      let held = strict-lossy bytes o m p in (
-        (items, (facts_are bytes o m held (λ f. items ≡ provided_in f.header.flags f.libs f.symbols)).1 is, refl),
-        (facts_are bytes o m held (λ f. symbols_past_in (symbol_table_view m) ≡ symbols_past_in f.symbols)).1 refl,
-      )
+      → HasRows words.Providers bytes o (fields_read provided_fields items) (symbols_past_in (symbol_table_view m))
+  provider_rows items is = (
+    (items, of_parts (λ f. items ≡ provided_in f.header.flags f.libs f.symbols) is, refl),
+    of_parts (λ f. symbols_past_in (symbol_table_view m) ≡ symbols_past_in f.symbols) refl,
+  )
 
   pub library_rows : (items : List LibraryView) → items ≡ libraries_in (ctx_view m).le (bytes_view m) (commands_view m)
-      → HasRows words.Libraries bytes o (as_rows library_row (libraries_there items)) 0
-  library_rows items is = (items, ((libraries_by_kind_are m).strict bytes o p items).1 is, refl, refl)
+      → HasRows words.Libraries bytes o (map (λ l. Ok (library_fields l)) items) 0
+  library_rows items is = ((items, ((libraries_by_kind_are m).strict bytes o p items).1 is, refl), refl)
 
   pub rebase_rows : (items : List (Result Rebase Fault))
       → AreImageRebases (rebase_stream_in (bytes_view m) (commands_view m)) (chained_view m) (ctx_view m).le (pointer_size (ctx_view m).container)
-      (segments_view m) items → HasRows words.Rebases bytes o (as_rows rebase_row items) 0
+      (segments_view m) items → HasRows words.Rebases bytes o (fields_read rebase_row_fields items) 0
   rebase_rows items is = ((items, ((rebases_are m).strict bytes o p items).1 is, refl), refl)
 
   pub weak_rows : (items : List (Result WeakBind Fault))
       → AreImageWeakBinds (weak_stream_in (bytes_view m) (commands_view m)) (pointer_size (ctx_view m).container) (segments_view m) items
-      → HasRows words.Weak bytes o (as_rows weak_row items) 0
+      → HasRows words.Weak bytes o (fields_read weak_row_fields items) 0
   weak_rows items is = ((items, ((weak_binds_are m).strict bytes o p items).1 is, refl), refl)
+
+  pub segment_rows : (rows : List (Result (List FieldView) Fault)) → rows ≡ segment_rows_from 0 (segments_view m) → HasRows words.Segments bytes o rows 0
+  segment_rows rows is = (of_parts (λ f. rows ≡ segment_rows_from 0 f.segments) is, refl)
+
+  pub section_rows : (items : List (Result SectionRow Fault)) (past : ℕ) → items ≡ section_rows_in 0 0 (segments_view m)
+      → past ≡ sections_past (segments_view m) → HasRows words.Sections bytes o (fields_read section_part_fields items) past
+  section_rows items past is is_past = of_parts
+      (λ f. (fields_read section_part_fields items ≡ fields_read section_part_fields (section_rows_in 0 0 f.segments)) × (past ≡ sections_past f.segments))
+      (ap (fields_read section_part_fields) is, is_past)
+
+  pub uuid_rows : (items : List UuidRow) → items ≡ filter_map (uuid_row_by m.header) (commands_view m)
+      → HasRows words.Uuid bytes o (map (λ u. Ok (uuid_part_fields u)) items) 0
+  uuid_rows items is =
+      let shown : List UuidRow → List (Result (List FieldView) Fault) = λ uuids. map (λ u. Ok (uuid_part_fields u)) uuids in
+      (of_parts (λ f. shown items ≡ shown (filter_map (uuid_row_by f.header) f.commands)) (ap shown is), refl)
+
+  pub rpath_rows : (rows : List (Result (List FieldView) Fault)) → rows ≡ rpath_rows_from 0 (texts m.rpaths.items) → HasRows words.Rpaths bytes o rows 0
+  rpath_rows rows is = (of_parts (λ f. rows ≡ rpath_rows_from 0 f.run_paths) is, refl)
+
+  pub entry_rows : (row : Option EntryView) → IsEntryRow m.entry (facts_view m) row → HasRows words.Entry bytes o (one_row entry_part_fields row) 0
+  entry_rows row is =
+      let point : EntryPoint = record { address = m.entry; old_style = m.old_style_entry } in (
+        (
+          point,
+          ((entry_point_is m).strict bytes o p point).1 refl,
+          of_parts (λ f. (seen : Option EntryView) × IsEntryRow m.entry f seen × (one_row entry_part_fields row ≡ one_row entry_part_fields seen))
+              (row, is, refl),
+        ),
+        refl,
+      )
+
+  pub header_row : HasRows words.Header bytes o (Ok (header_part_fields m.header) ∷ []) 0
+  header_row =
+      let row : List (Result (List FieldView) Fault) = Ok (header_part_fields m.header) ∷ [] in
+      (of_parts (λ f. row ≡ Ok (header_part_fields f.header) ∷ []) refl, refl)
+
+  pub finding_rows : (items : List (Result Finding Fault)) → items ≡ all_findings (facts_view m)
+      → HasRows words.Security bytes o (fields_read finding_fields items) 0
+  finding_rows items is = ((items, of_parts (λ f. items ≡ all_findings f) is, refl), refl)
 
   pub import_fields_are : (parts : List SegmentStretches) (segments : List SegmentView) → HasSegments bytes o segments
       → parts ≡ parts_of (length bytes) segments → (items : List (Result Binding Fault))
@@ -123,17 +166,3 @@ module _ {A : Type 0} (m : MachO A) (bytes : List ℕ) (o : ℕ) (p : IsImage by
     has_items = subst (λ (k : ℕ). HasBindings bytes k items) start (((bindings_are m).strict bytes o p items).1 is);
     shown = ap (λ (known : List SegmentStretches). fields_of_imports known items) are;
   }
-
-  pub part_rows : (part : Part) (items : List (Result PartRowView Fault)) (past : ℕ)
-      → ArePartRows part m.entry (facts_view m) items → past ≡ past_of_part part (facts_view m)
-      → HasRows (words.Part part) bytes o (as_rows part_row items) past
-  part_rows part items past is is_past =
-      let point : EntryPoint = record { address = m.entry; old_style = m.old_style_entry } in (
-        items,
-        (
-          point,
-          ((entry_point_is m).strict bytes o p point).1 refl,
-          (facts_are bytes o m (strict-lossy bytes o m p) (λ f. ArePartRows part m.entry f items × (past ≡ past_of_part part f))).1 (is, is_past),
-        ),
-        refl,
-      )

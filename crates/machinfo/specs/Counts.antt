@@ -1,14 +1,12 @@
 -- How many items the lists of an image have.
-use Rattle.std.specs.Prelude.{◌==◌, ◌-◌, ◌&&◌, if◌then◌else◌, ℕ, List, [], ◌∷◌, ◌++◌, codes, Bool, true, not, Result}
+use Rattle.std.specs.Prelude.{◌≡◌, ◌==◌, ◌-◌, ◌&&◌, if◌then◌else◌, ℕ, List, [], ◌∷◌, ◌++◌, codes, map, Bool, true, not, Result}
 use Rattle.std.specs.Fmt.{decimal}
 use Rattle.mach_base.specs.Fault.{Fault}
-use Rattle.mach_cli.specs.Fields.{word_if}
-use Rattle.mach_cli.specs.Listings.{CountsRows}
+use Rattle.mach_cli.specs.Fields.{FieldView, fields_line, word_if}
+use Rattle.mach_cli.specs.Listings.{CountsRows, reported_by}
 use Rattle.mach_cli.specs.declared.listing.ListProgress.{ListProgress}
 use Rattle.mach_cli.specs.JsonText.{json_bool}
-use Rattle.machinfo.specs.RowFields.{row_texts}
-use Rattle.machinfo.specs.Lists.{HasRows}
-use Rattle.machinfo.specs.Rows.{RowView}
+use Rattle.machinfo.specs.Lists.{OfRows}
 use Rattle.machinfo.specs.Words.{spelling_of}
 use Rattle.machinfo.specs.declared.word.Word.{Word}
 use Rattle.machinfo.specs.declared.word.Word.TheVariants.{CommandsAlone, Starts, Slots, Indirect, Data, Options}
@@ -55,14 +53,22 @@ abbrev pub count_reported : Form → Word → ℕ → ListProgress → ℕ → L
 count_reported Lines word limit reported past = count_line word limit reported past
 count_reported Members word limit reported past = count_member word limit reported past
 
--- The text gives one count for each of these words, in order: how many rows the word's list has in the image at the start of the
--- bytes, counted up to the limit, and how many more the list claims past the end of the bytes. It is whole if no list has or
--- claims more, and all rows can be read.
+-- The text is the count of a word's list with these rows, which claims `past` more, counted up to the limit. It is whole if the list
+-- has or claims no more, and all rows can be read.
+pub record IsCount (form : Form) (word : Word) (limit : ℕ) (rows : List (Result (List FieldView) Fault)) (past : ℕ) (text : List ℕ) (whole : Bool)
+    : Type 0 where
+  pub reported : ListProgress
+  pub counts : CountsRows limit (map (reported_by fields_line) rows) reported
+  pub is_text : text ≡ count_reported form word limit reported past
+  pub is_whole : whole ≡ are_counted_whole reported past
+
+-- The text gives one count for each of these words, in order, for the lists of the image at the start of the bytes. It is whole if each
+-- count is.
 pub data AreCounts (form : Form) (limit : ℕ) (bytes : List ℕ) : List Word → List ℕ → Bool → Type 0 where
   no_counts : AreCounts form limit bytes [] [] true
-  counts_more : (words : List Word) (word : Word) (text : List ℕ) (whole : Bool) (rows : List (Result RowView Fault)) (past : ℕ)
-      (reported : ListProgress) → AreCounts form limit bytes words text whole → HasRows word bytes 0 rows past → CountsRows limit (row_texts rows) reported
-      → AreCounts form limit bytes (words ++ word ∷ []) (text ++ count_reported form word limit reported past) (whole && are_counted_whole reported past)
+  counts_more : (words : List Word) (word : Word) (text one : List ℕ) (whole is_whole : Bool) → AreCounts form limit bytes words text whole
+      → OfRows word bytes (λ rows past. IsCount form word limit rows past one is_whole)
+      → AreCounts form limit bytes (words ++ word ∷ []) (text ++ one) (whole && is_whole)
 
 -- the lists that are counted
 abbrev pub counted_words : List Word

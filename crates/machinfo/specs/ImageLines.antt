@@ -16,11 +16,10 @@ use Rattle.machinfo.specs.Counts.{AreCounts, counted_words}
 use Rattle.machinfo.specs.ExportRows.{HasExportFields}
 use Rattle.machinfo.specs.FrontStatus.{IsFrontWhole}
 use Rattle.machinfo.specs.Imports.{HasImportFields}
-use Rattle.machinfo.specs.Lists.{HasRows}
+use Rattle.machinfo.specs.Lists.{OfRows}
 use Rattle.machinfo.specs.PartLines.{AreLinesOfParts}
-use Rattle.machinfo.specs.RowFields.{fields_of_rows, lines_form}
+use Rattle.machinfo.specs.RowFields.{lines_form}
 use Rattle.machinfo.specs.ListLines.{AreRowLines}
-use Rattle.machinfo.specs.Rows.{RowView}
 use Rattle.machinfo.specs.Words.{spelling_of}
 use Rattle.machinfo.specs.Signed.{AreSignatureLinesOf, is_readable}
 use Rattle.machinfo.specs.StateLines.{state_lines}
@@ -64,10 +63,7 @@ pub record AreListedMembers (name : List ℕ) (Has : List (Result (List FieldVie
 -- if there are no more, and each row can be read. Of the limit `rest` are left after it.
 pub record AreImageListMembers (word : Word) (left : ℕ) (bytes : List ℕ) (text : List ℕ) (whole : Bool) (rest : ℕ) : Type 0 where
   pub opens : Opens bytes 0
-  pub rows : List (Result RowView Fault)
-  pub past : ℕ
-  pub has_rows : HasRows word bytes 0 rows past
-  pub members : AreItemMembers (spelling_of word) left (fields_of_rows rows) past text whole rest
+  pub members : OfRows word bytes (λ rows past. AreItemMembers (spelling_of word) left rows past text whole rest)
 
 -- The text is the summary of the image at the start of the bytes. Its parts are: the first lines; the lines of the entry point, the
 -- segments and the sections; those of the libraries and the run paths; whether the image is signed, and what its code directory says;

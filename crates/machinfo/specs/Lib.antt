@@ -13,7 +13,6 @@ pub mod ProvidedSymbols
 pub mod SectionRows
 pub mod Parts
 pub mod PartFields
-pub mod Rows
 pub mod Lists
 pub mod StateLines
 pub mod Segments

@@ -1,10 +1,13 @@
 -- What the rows of parts of an image show, field by field: as lines, and as objects of JSON (`mach-o/loader.h`).
 use Rattle.std.specs.Prelude.{◌==◌, ◌&&◌, ◌∷◌, ◌++◌, ℕ, ◌-◌, ◌/◌, ◌%◌, List, []}
-use Rattle.std.specs.Prelude.{codes, length, map, bit_and, bytes_eq, Bool, not, Option, Some, None, option_map, if◌then◌else◌}
+use Rattle.std.specs.Prelude.{codes, drop, length, map, bit_and, bytes_eq, Bool, not, Option, Some, None, option_map, Result, Ok, if◌then◌else◌}
+use Rattle.std.specs.List.{enumerate_from}
+use Rattle.mach_base.specs.Fault.{Fault}
 use Rattle.mach_base.specs.Named.{Named, name_or}
+use Rattle.mach_base.specs.Text.{texts}
 use Rattle.mach_parts.specs.Cpu.{caps_of_cpu, kind_of_cpu}
 use Rattle.mach_parts.specs.HeaderNames.{flag_name, flag_names}
-use Rattle.mach_parts.specs.Segment.{SegmentView}
+use Rattle.mach_parts.specs.Segment.{SegmentView, segment_view}
 use Rattle.mach_parts.specs.declared.header.Header.{Header}
 use Rattle.mach_parts.specs.declared.segment.numbered.NumberedSection.{NumberedSection}
 use Rattle.mach_records.specs.declared.segments.Section64.{Section64}
@@ -12,10 +15,12 @@ use Rattle.mach_cli.specs.Fields.{FieldView, ValueView, alone_field, field_of, f
 use Rattle.mach_cli.specs.Fields.{text, uuid, wide_field}
 use Rattle.mach_records.specs.CpuNames.{arch_rows, cpu_named}
 use Rattle.mach_cli.specs.ImageKinds.{image_kind}
-use Rattle.machinfo.specs.Parts.{EntryView, PartRowView, entry_part, header_part, rpath_part, section_part, segment_part, uuid_part}
+use Rattle.machinfo.specs.Parts.{EntryView}
 use Rattle.mach_cli.specs.JsonText.{if_not_empty, name_in_field}
 use Rattle.mach_records.specs.NumberNames.{rights_text}
 use Rattle.machinfo.specs.HeaderWords.{flag_short_name}
+use Rattle.machinfo.specs.declared.parts.NumberedPaths.{NumberedPaths}
+use Rattle.machinfo.specs.declared.parts.NumberedSegments.{NumberedSegments}
 use Rattle.machinfo.specs.declared.parts.UuidRow.{UuidRow}
 use Rattle.machinfo.specs.declared.sections.SectionRow.{SectionRow}
 
@@ -229,10 +234,23 @@ header_part_fields h = header_members h ++ header_flags h.flags
 
 -- ---- rows
 
-abbrev pub part_fields : PartRowView → List FieldView
-part_fields (segment_part found) = segment_part_fields found
-part_fields (section_part row) = section_part_fields row
-part_fields (uuid_part row) = uuid_part_fields row
-part_fields (rpath_part found) = rpath_part_fields found
-part_fields (entry_part row) = entry_part_fields row
-part_fields (header_part h) = header_part_fields h
+-- segments, the first of which has this number
+abbrev pub segment_rows_from : ℕ → List SegmentView → List (Result (List FieldView) Fault)
+segment_rows_from n segments = map (λ found. Ok (segment_part_fields found)) (enumerate_from n segments)
+
+-- run paths, the first of which has this number
+abbrev pub rpath_rows_from : ℕ → List (List ℕ) → List (Result (List FieldView) Fault)
+rpath_rows_from n paths = map (λ found. Ok (rpath_part_fields found)) (enumerate_from n paths)
+
+-- the row of an item, if there is one
+abbrev pub one_row : {X : Type 0} → (X → List FieldView) → Option X → List (Result (List FieldView) Fault)
+one_row fields None = []
+one_row fields (Some item) = Ok (fields item) ∷ []
+
+-- ---- what the code's values mean
+
+abbrev pub segments_numbered_left : NumberedSegments → List (Result (List FieldView) Fault)
+segments_numbered_left it = segment_rows_from it.number (map segment_view (drop it.number it.segments.now))
+
+abbrev pub paths_numbered_left : NumberedPaths → List (Result (List FieldView) Fault)
+paths_numbered_left it = rpath_rows_from it.number (texts (drop it.number it.paths.now))

@@ -21,20 +21,12 @@ use Rattle.mach_audit.specs.declared.security.Finding.{Finding}
 use Rattle.mach_cli.specs.Fields.{FieldView, number, named, signed, hex, text, version, flag, flags, field_of, line_field}
 use Rattle.mach_cli.specs.Fields.{fields_line, fields_pairs, object_field, optional_text}
 use Rattle.mach_cli.specs.Fields.{whether, wide_field}
-use Rattle.mach_cli.specs.Listings.{reported_by}
 use Rattle.mach_cli.specs.Signing.{diverse_by, diversity_by, has_auth, key_by, rebase_type}
-use Rattle.machinfo.specs.CommandRowFields.{command_row_fields}
 use Rattle.machinfo.specs.NumberedNotes.{NumberedNoteView}
-use Rattle.machinfo.specs.PartFields.{column_if, flag_field, part_fields}
+use Rattle.machinfo.specs.PartFields.{column_if, flag_field}
 use Rattle.machinfo.specs.ProvidedSymbols.{ProvidedView}
-use Rattle.machinfo.specs.Rows.{RowView, command_row, start_row, slot_row, indirect_row, data_row, option_row, tool_row, note_row}
-use Rattle.machinfo.specs.Rows.{provided_row, library_row, rebase_row, weak_row, part_row, verdict_row, list_row_view}
 use Rattle.mach_cli.specs.JsonText.{if_not_empty}
-use Rattle.machinfo.specs.Lists.{list_rows_left}
 use Rattle.machinfo.specs.Tools.{tool_word}
-use Rattle.machinfo.specs.declared.list.ImageList.{ImageList}
-use Rattle.machinfo.specs.declared.row.Row.{Row}
-use Rattle.machinfo.specs.declared.word.Part.TheVariants as parts
 use Rattle.machinfo.specs.declared.word.Word.{Word}
 use Rattle.machinfo.specs.declared.word.Word.TheVariants as words
 
@@ -190,45 +182,17 @@ finding_fields it =
 
 -- ---- rows
 
-abbrev pub row_fields : RowView → List FieldView
-row_fields (command_row row) = command_row_fields row
-row_fields (start_row address) = start_fields address
-row_fields (slot_row slot) = slot_fields slot
-row_fields (indirect_row entry) = indirect_fields entry
-row_fields (data_row entry) = data_fields entry
-row_fields (option_row found) = option_fields found
-row_fields (tool_row found) = tool_fields found
-row_fields (note_row note) = note_fields note
-row_fields (provided_row provided) = provided_fields provided
-row_fields (library_row library) = library_fields library
-row_fields (rebase_row rebase) = rebase_row_fields rebase
-row_fields (weak_row bind) = weak_row_fields bind
-row_fields (part_row row) = part_fields row
-row_fields (verdict_row finding) = finding_fields finding
-
--- the fields of rows; a fault stays in its place
-abbrev pub fields_of_rows : List (Result RowView Fault) → List (Result (List FieldView) Fault)
-fields_of_rows found = map (λ item. item >>= (λ row. Ok (row_fields row))) found
-
--- the lines of rows
-abbrev pub row_texts : List (Result RowView Fault) → List (Result (List ℕ) Fault)
-row_texts found = map (reported_by fields_line) (fields_of_rows found)
+-- the fields of items; a fault stays in its place
+abbrev pub fields_read : {X : Type 0} → (X → List FieldView) → List (Result X Fault) → List (Result (List FieldView) Fault)
+fields_read fields items = map (λ item. item >>= (λ x. Ok (fields x))) items
 
 -- the lines of commands and of the header have the names of fields
 abbrev pub has_names : Word → Bool
 has_names words.Commands = true
 has_names words.CommandsAlone = true
-has_names (words.Part parts.Header) = true
+has_names words.Header = true
 has_names _ = false
 
 -- the form of the lines of a word's list
 abbrev pub lines_form : Word → List FieldView → List ℕ
 lines_form word = if has_names word then fields_pairs else fields_line
-
--- ---- what the code's values mean
-
-abbrev pub fields_shown : Row → List FieldView
-fields_shown row = row_fields (list_row_view row)
-
-abbrev pub list_fields_left : {A : Type 0} → ImageList A → List (Result (List FieldView) Fault)
-list_fields_left it = fields_of_rows (list_rows_left it)

@@ -11,49 +11,12 @@ use Rattle.machinfo.specs.declared.word.Choice.TheVariants as choices
 use Rattle.machinfo.specs.declared.word.Word.{Word}
 use Rattle.machinfo.specs.declared.word.Word.TheVariants.{Commands, CommandsAlone, Starts, Slots, Indirect, Data}
 use Rattle.machinfo.specs.declared.word.Word.TheVariants.{Options, Tools, Notes, Providers, Libraries, Rebases}
-use Rattle.machinfo.specs.declared.word.Word.TheVariants.{Weak, Part, Security}
-use Rattle.machinfo.specs.declared.word.Part.TheVariants as parts
-
--- a word, and how it is spelled
-pub record SpelledWord : Type 0 where
-  pub spelling : List ℕ
-  pub word : Word
-
-abbrev pub list_words : List SpelledWord
-list_words =
-    record { spelling = codes "commands"; word = Commands }
-    ∷ record { spelling = codes "starts"; word = Starts }
-    ∷ record { spelling = codes "slots"; word = Slots }
-    ∷ record { spelling = codes "indirect"; word = Indirect }
-    ∷ record { spelling = codes "data"; word = Data }
-    ∷ record { spelling = codes "options"; word = Options }
-    ∷ record { spelling = codes "tools"; word = Tools }
-    ∷ record { spelling = codes "notes"; word = Notes }
-    ∷ record { spelling = codes "providers"; word = Providers }
-    ∷ record { spelling = codes "libraries"; word = Libraries }
-    ∷ record { spelling = codes "rebases"; word = Rebases }
-    ∷ record { spelling = codes "weak"; word = Weak }
-    ∷ record { spelling = codes "segments"; word = Part parts.Segments }
-    ∷ record { spelling = codes "sections"; word = Part parts.Sections }
-    ∷ record { spelling = codes "uuid"; word = Part parts.Uuid }
-    ∷ record { spelling = codes "rpaths"; word = Part parts.Rpaths }
-    ∷ record { spelling = codes "entrypoint"; word = Part parts.Entry }
-    ∷ record { spelling = codes "header"; word = Part parts.Header }
-    ∷ record { spelling = codes "security"; word = Security }
-    ∷ []
-
--- the first word with a spelling
-abbrev pub word_among : List SpelledWord → List ℕ → Option Word
-word_among [] text = None
-word_among (w ∷ others) text = if bytes_eq text w.spelling then Some w.word else word_among others text
-
-abbrev pub word_named : List ℕ → Option Word
-word_named text = word_among list_words text
+use Rattle.machinfo.specs.declared.word.Word.TheVariants.{Weak, Segments, Sections, Uuid, Rpaths, Entry, Header, Security}
 
 -- how a word is spelled
 abbrev pub spelling_of : Word → List ℕ
-spelling_of Commands = codes "commands"
 spelling_of CommandsAlone = codes "commands"
+spelling_of Commands = codes "commands"
 spelling_of Starts = codes "starts"
 spelling_of Slots = codes "slots"
 spelling_of Indirect = codes "indirect"
@@ -65,13 +28,27 @@ spelling_of Providers = codes "providers"
 spelling_of Libraries = codes "libraries"
 spelling_of Rebases = codes "rebases"
 spelling_of Weak = codes "weak"
-spelling_of (Part parts.Segments) = codes "segments"
-spelling_of (Part parts.Sections) = codes "sections"
-spelling_of (Part parts.Uuid) = codes "uuid"
-spelling_of (Part parts.Rpaths) = codes "rpaths"
-spelling_of (Part parts.Entry) = codes "entrypoint"
-spelling_of (Part parts.Header) = codes "header"
+spelling_of Segments = codes "segments"
+spelling_of Sections = codes "sections"
+spelling_of Uuid = codes "uuid"
+spelling_of Rpaths = codes "rpaths"
+spelling_of Entry = codes "entrypoint"
+spelling_of Header = codes "header"
 spelling_of Security = codes "security"
+
+-- the words that a call may have
+abbrev pub list_words : List Word
+list_words =
+    Commands ∷ Starts ∷ Slots ∷ Indirect ∷ Data ∷ Options ∷ Tools ∷ Notes ∷ Providers ∷ Libraries ∷ Rebases ∷ Weak ∷ Segments ∷ Sections
+    ∷ Uuid ∷ Rpaths ∷ Entry ∷ Header ∷ Security ∷ []
+
+-- the first word with a spelling
+abbrev pub word_among : List Word → List ℕ → Option Word
+word_among [] text = None
+word_among (w ∷ others) text = if bytes_eq text (spelling_of w) then Some w else word_among others text
+
+abbrev pub word_named : List ℕ → Option Word
+word_named text = word_among list_words text
 
 -- what a spelling selects: the exports, the imports, or a word's list
 unfoldable pub choice_named : List ℕ → Option Choice

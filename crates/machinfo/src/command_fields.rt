@@ -1,19 +1,39 @@
 //! What is shown of a load command, field by field: as a line, and as an object of JSON.
 
-ghost use Rattle.std.specs.Prelude.{◌≡◌, [], map, unwrap_or, OnOk};
+ghost use Rattle.std.specs.Prelude.{◌≡◌, [], Ok, map, unwrap_or, OnOk};
 ghost use Rattle.std.specs.Io.KnownBytes.{Appends};
 ghost use Rattle.mach_records.specs.CommandName.{command_name};
 ghost use Rattle.mach_load.specs.Variants.{command_of};
 ghost use Rattle.mach_cli.specs.Fields.{field_view, named, value_view};
 ghost use Rattle.machinfo.specs.CommandFields.{bytes_of_command, command_head};
-ghost use Rattle.machinfo.specs.NumberedCommands.{numbered_command_fields, numbered_command_view};
+ghost use Rattle.machinfo.specs.NumberedCommands.{numbered_command_fields, numbered_command_view, numbered_commands_left};
 
-use crate::commands::NumberedCommand;
+use crate::commands::{NumberedCommand, NumberedCommands};
+use goblin_mach::Result;
 use goblin_mach::load_command::{LoadCommand, command_name};
-use mach_cli::{Field, FieldsForm, RecordFields, Value};
+use mach_cli::{Field, FieldsForm, ItemList, RecordFields, Value};
 use mach_command_fields::command_slice;
 use std::io;
 use std::io::Write;
+
+impl<'a, 'b> ItemList for NumberedCommands<'a, 'b> {
+    type Item = NumberedCommand<'a, 'b>;
+
+    ghost fields = { λ item. numbered_command_fields (numbered_command_view item) };
+
+    ghost items_left = { λ s. map (λ c. Ok (numbered_command_fields c)) (numbered_commands_left s) };
+
+    fn next_item(&mut self) -> Option<Result<NumberedCommand<'a, 'b>>> {
+        Some(Ok(self.take_next()?))
+    }
+
+    fn write_item<F: FieldsForm, O: Write>(
+        command: &NumberedCommand<'a, 'b>,
+        out: &mut O,
+    ) -> io::Result<()> {
+        write_command::<F, O>(command, out)
+    }
+}
 
 /// Writes the fields of a command in a form: its number, its offset, its size and its name, and then those of its record.
 pub fn write_command<F: FieldsForm, O: Write>(

@@ -1,36 +1,43 @@
 //! What is shown of a row of load commands, field by field: as a line, and as an object of JSON.
 
-ghost use Rattle.std.specs.Prelude.{◌≡◌, map, OnOk};
+ghost use Rattle.std.specs.Prelude.{◌≡◌, Ok, map, OnOk};
 ghost use Rattle.std.specs.Io.KnownBytes.{Appends};
 ghost use Rattle.mach_dyld.specs.Exports.{text_in};
 ghost use Rattle.mach_records.specs.Segments.{section32_values, section64_values};
 ghost use Rattle.mach_base.specs.declared.context.Container.TheVariants.{Little, Big};
 ghost use Rattle.mach_cli.specs.Fields.{field_view};
 ghost use Rattle.machinfo.specs.CommandRowFields as defined;
-ghost use Rattle.machinfo.specs.CommandRows.{command_row_view, command_section_view};
+ghost use Rattle.machinfo.specs.CommandRows.{command_row_view, command_rows_left, command_section_view};
 ghost use Rattle.machinfo.specs.ThreadRegisters.{register_view};
 
 use crate::command_fields::write_command;
-use crate::command_rows::CommandRow;
+use crate::command_rows::{CommandRow, CommandRows};
 use crate::command_sections::{CommandSection, SectionRecord};
 use crate::part_fields::section_type;
 use crate::registers::Register;
+use goblin_mach::Result;
 use goblin_mach::load_command::{Section32, Section64};
-use mach_cli::{Field, FieldsForm, Value, name_in_field};
+use mach_cli::{Field, FieldsForm, ItemList, Value, name_in_field};
 use std::io;
 use std::io::Write;
 
-/// Writes the fields of a row in a form.
-pub fn write_command_row<F: FieldsForm, O: Write>(
-    row: &CommandRow<'_, '_>,
-    out: &mut O,
-) -> io::Result<()>
-    ensures { OnOk result (Appends (O.contents out.old) (O.contents out.new) (F.fields_text (defined.command_row_fields (command_row_view row.now)))) }
-{
-    match row {
-        CommandRow::Itself(command) => write_command::<F, O>(command, out),
-        CommandRow::Section(section) => write_section::<F, O>(section, out),
-        CommandRow::Register(register) => F::write(&register_fields(*register), out),
+impl<'a, 'b> ItemList for CommandRows<'a, 'b> {
+    type Item = CommandRow<'a, 'b>;
+
+    ghost fields = { λ item. defined.command_row_fields (command_row_view item) };
+
+    ghost items_left = { λ s. map (λ row. Ok (defined.command_row_fields row)) (command_rows_left s) };
+
+    fn next_item(&mut self) -> Option<Result<CommandRow<'a, 'b>>> {
+        Some(Ok(self.take_next()?))
+    }
+
+    fn write_item<F: FieldsForm, O: Write>(row: &CommandRow<'a, 'b>, out: &mut O) -> io::Result<()> {
+        match row {
+            CommandRow::Itself(command) => write_command::<F, O>(command, out),
+            CommandRow::Section(section) => write_section::<F, O>(section, out),
+            CommandRow::Register(register) => F::write(&register_fields(*register), out),
+        }
     }
 }
 

@@ -3,15 +3,12 @@
 ghost use Rattle.std.specs.Prelude.{◌≡◌, ℕ, List, Bool, IfOk, OnOk, Some};
 ghost use Rattle.std.specs.Io.KnownBytes.{Appends};
 ghost use Rattle.goblin_mach.specs.OpenImage.{IsImage};
-ghost use Rattle.mach_cli.specs.Listings.{CountsRows};
-ghost use Rattle.machinfo.specs.RowFields.{row_texts};
-ghost use Rattle.machinfo.specs.Lists.{HasRows};
-ghost use Rattle.machinfo.specs.Counts.{are_counted_whole, count_members, count_text, count_reported, has_no_rows, past_text, AreCounts};
+ghost use Rattle.machinfo.specs.Counts.{count_members, count_text, count_reported, has_no_rows, past_text, AreCounts, IsCount};
 
-use crate::list::ImageList;
+use crate::list::{ListUse, use_list};
 use crate::word::Word;
 use goblin_mach::MachO;
-use mach_cli::{InForm, ItemList, Line, ListProgress, count_rows, word_if};
+use mach_cli::{InForm, ItemList, Line, ListProgress, Outcome, PastTheEnd, count_rows, word_if};
 use std::alloc::Allocator;
 use std::fmt::{Display, Formatter};
 use std::io::Write;
@@ -116,31 +113,38 @@ pub fn print_counts<A: Allocator, O: Write>(
 {
     let mut whole = true;
     'words: for word in words {
-        whole &= print_count(form, *word, image, limit, out)?;
+        let word = *word;
+        whole &= use_list(&Count { form, word, limit }, word, image, out)?.whole;
     }
     Ok(whole)
 }
 
-// Prints how many items a list has, and returns whether all can be read and there are no more.
-fn print_count<A: Allocator, O: Write>(
+// Prints how many items the list of a word has. It answers whether all can be read and there are no more.
+#[derive(Clone, Copy)]
+struct Count {
     form: Form,
     word: Word,
-    image: &MachO<'_, A>,
     limit: usize,
-    out: &mut O,
-) -> io::Result<bool>
-    ensures { (bytes : List ℕ) → IsImage bytes 0 image.now → IfOk result (λ whole. (rows : _) × (past : ℕ) × HasRows word bytes 0 rows past × (reported : _)
-        × CountsRows limit (row_texts rows) reported × (whole ≡ are_counted_whole reported past)
-        × Appends (O.contents out.old) (O.contents out.new) (count_reported form word limit reported past)) }
-{
-    let mut list = InForm {
-        list: ImageList::of(word, image),
-        form: Line,
-    };
-    let past = list.list.items_past();
-    let reported = count_rows(&mut list, limit);
-    write_count(form, word, limit, reported, past, out)?;
-    Ok(reported.whole & !reported.more & (past == 0))
+}
+
+impl ListUse for Count {
+    ghost writes = { λ s rows past _ text outcome. IsCount s.form s.word s.limit rows past text outcome.whole };
+
+    fn of_list<L: ItemList + Drop, O: Write>(
+        &self,
+        list: L,
+        past: PastTheEnd,
+        out: &mut O,
+    ) -> io::Result<Outcome> {
+        let form = Line;
+        let mut list = InForm { list, form, past };
+        let reported = count_rows(&mut list, self.limit);
+        write_count(self.form, self.word, self.limit, reported, past.count, out)?;
+        Ok(Outcome {
+            whole: reported.whole & !reported.more & (past.count == 0),
+            left: reported.left,
+        })
+    }
 }
 
 // Whether a list has no rows, and none is claimed past the end of the bytes.

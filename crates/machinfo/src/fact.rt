@@ -5,7 +5,7 @@ ghost use Rattle.std.specs.Io.KnownBytes.{Appends};
 ghost use Rattle.goblin_mach.specs.Libraries.{library_view};
 ghost use Rattle.machinfo.specs.FactTexts.{fact_lines_left, fact_object_shown, fact_objects_left, fact_shown, library_fact_text, versions_text};
 
-use crate::fields::write_library;
+use crate::lists::write_library;
 use crate::text::{PlatformObject, PlatformText, ToolText};
 use goblin_mach::names::{UuidText, VersionText};
 use goblin_mach::{Library, Result};

@@ -9,7 +9,7 @@ ghost use Rattle.mach_cli.specs.Fields.{field_view};
 ghost use Rattle.machinfo.specs.Imports.{imported_fields, import_from, import_shown, shown_import_view, shown_imports_left, import_section_name};
 ghost use Rattle.machinfo.specs.Imports.{import_segment_name, unless_dash};
 
-use crate::fields::{column_if, flag_field};
+use crate::lists::{column_if, flag_field};
 use crate::part_fields::text_or_dash;
 use goblin_mach::{AllStretches, Binding, BindingIterator, Result, SegmentStretches};
 use mach_cli::{
@@ -51,14 +51,6 @@ impl<'a, 'b, 'p, A: Allocator> ItemList for ImportList<'a, 'b, 'p, A> {
             Ok(binding) => Some(Ok(placed(self.parts, binding))),
             Err(error) => Some(Err(error)),
         }
-    }
-
-    fn items_past(&self) -> usize {
-        0
-    }
-
-    fn items_name(&self) -> &'static str {
-        ""
     }
 
     fn write_item<F: FieldsForm, O: Write>(import: &Import<'a, 'p>, out: &mut O) -> io::Result<()> {

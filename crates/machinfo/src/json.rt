@@ -12,13 +12,13 @@ ghost use Rattle.machinfo.specs.ImageLines.{counts_end};
 use crate::counts::{COUNTED, Form, print_counts};
 use crate::export_rows::{ExportForm, print_exports_of, walk_of};
 use crate::imports::ImportList;
-use crate::list::ImageList;
+use crate::list::{ListUse, use_list};
 use crate::members::write_front;
 use crate::word::{Choice, Word};
 use goblin_mach::{AllStretches, MachO};
 use mach_cli::{
-    AddressObjectsOf, ImageView, InForm, ItemList, Object, Outcome, ShowFailure, print_end_past,
-    print_member,
+    AddressObjectsOf, ImageView, InForm, ItemList, Object, Outcome, PastTheEnd, ShowFailure,
+    print_end_past, print_member,
 };
 use std::alloc::Allocator;
 use std::io;
@@ -65,7 +65,8 @@ fn write_rows<A: Allocator, O: Write>(
     ensures { (bytes : List ℕ) → IsImage bytes 0 image.now → IfOk result (λ outcome. (text : List ℕ)
         × AreImageListMembers word left bytes text outcome.whole outcome.left × Appends (O.contents out.old) (O.contents out.new) text) }
 {
-    write_items(word.name(), ImageList::of(word, image), left, out)
+    let name = word.name();
+    use_list(&Members { name, left }, word, image, out)
 }
 
 // Writes the exports of an image as objects as a walk meets them, at most `left` of them. A fault of the trie is the last object.
@@ -106,24 +107,32 @@ fn write_imports<A: Allocator + Clone, O: Write>(
         parts: &parts,
         bindings: image.bindings(),
     };
-    Ok(write_items("imports", list, left, out)?)
+    let name = "imports";
+    Ok(Members { name, left }.of_list(list, PastTheEnd::NONE, out)?)
 }
 
 // Writes the items of a list as an array of this name, at most `left` of them; whether there are more; and how many more are claimed
-// past the end of the bytes. Returns whether all were written and can be read, and how many more may be written.
-fn write_items<L: ItemList + Drop, O: Write>(
-    name: &str,
-    list: L,
+// past the end of the bytes. It answers whether all were written and can be read, and how many more may be written.
+#[derive(Clone, Copy)]
+struct Members<'a> {
+    name: &'a str,
     left: usize,
-    out: &mut O,
-) -> io::Result<Outcome>
-    ensures { IfOk result (λ outcome. (text : List ℕ) × AreItemMembers name.now left (L.items_left list) (L.items_past list) text
-        outcome.whole outcome.left × Appends (O.contents out.old) (O.contents out.new) text) }
-{
-    let past = list.items_past();
-    let mut list = InForm { list, form: Object };
-    let reported = print_member(name, &mut list, left, out)?;
-    print_end_past(reported, past, out)
+}
+
+impl<'a> ListUse for Members<'a> {
+    ghost writes = { λ s rows past _ text outcome. AreItemMembers s.name.now s.left rows past text outcome.whole outcome.left };
+
+    fn of_list<L: ItemList + Drop, O: Write>(
+        &self,
+        list: L,
+        past: PastTheEnd,
+        out: &mut O,
+    ) -> io::Result<Outcome> {
+        let form = Object;
+        let mut list = InForm { list, form, past };
+        let reported = print_member(self.name, &mut list, self.left, out)?;
+        print_end_past(reported, past.count, out)
+    }
 }
 
 // Writes the summary as members, with how many items each list has, counted up to `limit`. Returns whether all items can be read

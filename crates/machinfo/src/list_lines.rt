@@ -1,34 +1,48 @@
 //! The lines of the rows of a list of an image.
 
-ghost use Rattle.std.specs.Prelude.{ℕ, List, IfOk};
-ghost use Rattle.std.specs.Io.KnownBytes.{Appends};
-ghost use Rattle.goblin_mach.specs.OpenImage.{IsImage};
-ghost use Rattle.machinfo.specs.ListLines.{AreRowLines};
+ghost use Rattle.std.specs.Prelude.{◌≡◌, ◌++◌, ℕ, List, true, codes, map};
+ghost use Rattle.mach_cli.specs.Escapes.{IsOneLine, has_no_feed};
+ghost use Rattle.mach_cli.specs.Fields.{FieldView, fields_line, fields_pairs};
+ghost use Rattle.mach_cli.specs.Listings.{AreFirstLines, reported_by};
+ghost use Rattle.mach_audit.specs.FactRows.{FactView};
+ghost use Rattle.machinfo.specs.FactTexts.{fact_text};
+ghost use Rattle.machinfo.specs.PartLines.{line_after};
 
-use crate::list::ImageList;
-use crate::word::Word;
-use goblin_mach::MachO;
-use mach_cli::{FieldsForm, InForm, Outcome, print_listing};
-use std::alloc::Allocator;
+use crate::list::ListUse;
+use mach_cli::{FieldsForm, InForm, ItemList, Outcome, PastTheEnd, print_listing};
 use std::io;
 use std::io::Write;
 
-/// Prints the rows of a word's list in a form, at most `left` of them; a row that can't be read is `refused` and why. Returns whether
-/// all rows were printed and can be read, and how many more may be printed.
-pub fn print_in_form<F: FieldsForm + Drop, A: Allocator, O: Write>(
-    word: Word,
-    form: F,
-    refused: &str,
-    image: &MachO<'_, A>,
-    limit: usize,
-    left: usize,
-    out: &mut O,
-) -> io::Result<Outcome>
-    ensures { (bytes : List ℕ) → IsImage bytes 0 image.now → IfOk result (λ outcome. (text : List ℕ)
-        × AreRowLines word F.fields_text refused.now limit left bytes text outcome.whole outcome.left
-        × Appends (O.contents out.old) (O.contents out.new) text) }
-{
-    let list = ImageList::of(word, image);
-    let mut lines = InForm { list, form };
-    print_listing(&mut lines, refused, limit, left, out)
+/// Prints the rows of a list in a form, at most `left` of them; a row that can't be read is `refused` and why. It answers whether all
+/// rows were printed and can be read, and how many more may be printed.
+#[derive(Clone, Copy)]
+pub struct Lines<'a, F> {
+    pub form: F,
+    pub refused: &'a str,
+    pub limit: usize,
+    pub left: usize,
 }
+
+impl<'a, F: FieldsForm + Copy + Drop> ListUse for Lines<'a, F> {
+    ghost writes = { λ s rows past name text outcome.
+        AreFirstLines s.refused.now s.limit s.left (map (reported_by F.fields_text) rows) name past text outcome.whole outcome.left };
+
+    fn of_list<L: ItemList + Drop, O: Write>(
+        &self,
+        list: L,
+        past: PastTheEnd,
+        out: &mut O,
+    ) -> io::Result<Outcome> {
+        let form = self.form;
+        let mut lines = InForm { list, form, past };
+        print_listing(&mut lines, self.refused, self.limit, self.left, out)
+    }
+}
+
+/// Each row of a list and each row of the summary is one line, whatever the names in the file hold.
+pub fn rows_are_lines()
+    ensures row { (fields : List FieldView) → IsOneLine (fields_line fields ++ codes "\n") }
+    ensures pairs { (fields : List FieldView) → IsOneLine (fields_pairs fields ++ codes "\n") }
+    ensures facts { (fact : FactView) → IsOneLine (fact_text fact ++ codes "\n") }
+    ensures part { (word : List ℕ) (fields : List FieldView) → has_no_feed word ≡ true → IsOneLine (line_after word fields ++ codes "\n") }
+{}

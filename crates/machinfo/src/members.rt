@@ -14,21 +14,20 @@ ghost use Rattle.machinfo.specs.HeaderWords.{flag_short_name};
 ghost use Rattle.machinfo.specs.Lists.{HasRows};
 ghost use Rattle.machinfo.specs.Signed.{is_readable};
 ghost use Rattle.machinfo.specs.Summary.{flag_text, WritesSome};
-ghost use Rattle.machinfo.specs.declared.word.Part.TheVariants.{Entry};
 ghost use Rattle.machinfo.specs.declared.word.Word.TheVariants as words;
 
 use crate::fact::FactObjects;
-use crate::list::ImageList;
+use crate::parts::EntryPoint;
 use crate::segments::write_segments;
 use crate::signed::{is_ad_hoc, is_readable};
 use crate::summary::flag_short_name;
-use crate::word::{Part, Word};
 use goblin_mach::header::Header;
 use goblin_mach::names::cpu_name;
 use goblin_mach::{Error, MachO, Result, describe};
 use mach_audit::{CommandFacts, FactList, Question, State, state_of};
 use mach_cli::{
-    InForm, ListProgress, Object, StringOrNull, comma_before, image_kind, print_member, then,
+    InForm, ListProgress, Object, PastTheEnd, StringOrNull, comma_before, image_kind, print_member,
+    then,
 };
 use mach_signature::CodeDirectory;
 use mach_signature::image::code_directory;
@@ -68,11 +67,12 @@ fn write_entry<A: Allocator, O: Write>(
 ) -> io::Result<ListProgress>
     ensures written { OnOk result (WritesSome (O.contents out.old) (O.contents out.new)) }
     ensures status { (bytes : List ℕ) → IsImage bytes 0 image.now → IfOk result (λ t. (rows : _) × (past : ℕ)
-        × HasRows (words.Part Entry) bytes 0 rows past × (t.whole ≡ is_entry_read rows)) }
+        × HasRows words.Entry bytes 0 rows past × (t.whole ≡ is_entry_read rows)) }
 {
     let mut list = InForm {
-        list: ImageList::of(Word::Part(Part::Entry), image),
+        list: EntryPoint::of(image),
         form: Object,
+        past: PastTheEnd::NONE,
     };
     let reported = print_member("entrypoint", &mut list, 1, out)?;
     Ok(reported)

@@ -1,18 +1,17 @@
 //! What the rows of parts of an image show, field by field: as lines, and as objects of JSON.
 
-ghost use Rattle.std.specs.Prelude.{◌≡◌, map, option_map, OnOk};
-ghost use Rattle.std.specs.Io.KnownBytes.{Appends};
+ghost use Rattle.std.specs.Prelude.{◌≡◌, map, option_map};
 ghost use Rattle.mach_dyld.specs.Exports.{text_in};
 ghost use Rattle.mach_parts.specs.Segment.{segment_view};
 ghost use Rattle.mach_cli.specs.Fields.{field_view, named, value_view};
-ghost use Rattle.machinfo.specs.Parts.{entry_symbol_view, entry_view, part_row_view};
+ghost use Rattle.machinfo.specs.Parts.{entry_symbol_view, entry_view};
 ghost use Rattle.machinfo.specs.PartFields.{above_field, entry_distance_field, entry_part_fields, header_flag, header_flags, header_members, if_known};
 ghost use Rattle.machinfo.specs.PartFields.{name_of_found, entry_symbol_name};
-ghost use Rattle.machinfo.specs.PartFields.{part_fields, rpath_part_fields, section_members, section_type_name, segment_of_found};
+ghost use Rattle.machinfo.specs.PartFields.{rpath_part_fields, section_members, section_type_name, segment_of_found};
 ghost use Rattle.machinfo.specs.PartFields.{segment_part_fields, stub_fields, stubs_in, text_or_dash, uuid_part_fields};
 
-use crate::fields::{column_if, flag_field};
-use crate::parts::{EntryRow, EntrySymbol, PartRow, UuidRow};
+use crate::lists::{column_if, flag_field};
+use crate::parts::{EntryRow, EntrySymbol, UuidRow};
 use crate::sections::SectionRow;
 use crate::summary::flag_short_name;
 use goblin_mach::header::{
@@ -26,30 +25,7 @@ use goblin_mach::header::{
 use goblin_mach::load_command::Section64;
 use goblin_mach::names::cpu_name;
 use goblin_mach::segment::{NumberedSection, Segment};
-use mach_cli::{Field, FieldsForm, Value, if_not_empty, image_kind, name_in_field, rights};
-use std::io;
-use std::io::Write;
-
-/// Writes the fields of a row in a form.
-pub fn write_part<F: FieldsForm, O: Write>(row: &PartRow<'_, '_>, out: &mut O) -> io::Result<()>
-    ensures { OnOk result (Appends (O.contents out.old) (O.contents out.new) (F.fields_text (part_fields (part_row_view row.now)))) }
-{
-    match row {
-        PartRow::Segment(number, segment) => F::write(&segment_fields(*number, segment), out),
-        PartRow::Section(row) => {
-            let stubs = stub_fields(&row.section.section);
-            F::write_both(&section_fields(row), &stubs, out)
-        }
-        PartRow::Uuid(row) => F::write(&uuid_fields(row), out),
-        PartRow::Rpath(number, path) => F::write(&rpath_fields(*number, path), out),
-        PartRow::Entry(row) => F::write(&entry_fields(row), out),
-        PartRow::Header(header) => F::write_both(
-            &header_members(header),
-            &header_flags(header.flags),
-            out,
-        ),
-    }
-}
+use mach_cli::{Field, Value, if_not_empty, image_kind, name_in_field, rights};
 
 // Returns a number by its name, unless that is the one of all that have none.
 fn named(number: u32, name: &'static str, unknown: &'static str) -> Value<'static>
@@ -68,8 +44,8 @@ pub fn text_or_dash(text: Option<&str>) -> &str
     if text.is_empty() { "-" } else { text }
 }
 
-// Returns the fields of a segment and its number.
-fn segment_fields<'a>(number: usize, segment: &'a Segment<'_>) -> [Field<'a>; 17]
+/// Returns the fields of a segment and its number.
+pub fn segment_fields<'a>(number: usize, segment: &'a Segment<'_>) -> [Field<'a>; 17]
     ensures { map field_view result ≡ segment_part_fields (number, segment_view segment.now) }
 {
     let name = name_in_field(&segment.segname);
@@ -128,8 +104,8 @@ pub fn section_type(number: u32) -> &'static str
     }
 }
 
-// Returns the fields of a section, but for its stubs.
-fn section_fields<'a>(row: &'a SectionRow) -> [Field<'a>; 18]
+/// Returns the fields of a section, but for its stubs.
+pub fn section_fields<'a>(row: &'a SectionRow) -> [Field<'a>; 18]
     ensures { map field_view result ≡ section_members row.now }
 {
     let section = &row.section.section;
@@ -173,8 +149,8 @@ fn stubs_in(section: &Section64) -> u64
     }
 }
 
-// Returns the fields of a section's stubs: their number and their size.
-fn stub_fields(section: &Section64) -> [Field<'static>; 5]
+/// Returns the fields of a section's stubs: their number and their size.
+pub fn stub_fields(section: &Section64) -> [Field<'static>; 5]
     ensures { map field_view result ≡ stub_fields section.now }
 {
     let stubs = stubs_in(section);
@@ -188,8 +164,8 @@ fn stub_fields(section: &Section64) -> [Field<'static>; 5]
     ]
 }
 
-// Returns the fields of a UUID, with the cpu.
-fn uuid_fields(row: &UuidRow) -> [Field<'static>; 5]
+/// Returns the fields of a UUID, with the cpu.
+pub fn uuid_fields(row: &UuidRow) -> [Field<'static>; 5]
     ensures { map field_view result ≡ uuid_part_fields row.now }
 {
     let cpu = cpu_name(row.cputype, row.cpusubtype % 0x100_0000);
@@ -202,8 +178,8 @@ fn uuid_fields(row: &UuidRow) -> [Field<'static>; 5]
     ]
 }
 
-// Returns the fields of a run path and its number.
-fn rpath_fields<'a>(number: usize, path: &'a str) -> [Field<'a>; 2]
+/// Returns the fields of a run path and its number.
+pub fn rpath_fields<'a>(number: usize, path: &'a str) -> [Field<'a>; 2]
     ensures { map field_view result ≡ rpath_part_fields (number, path.now) }
 {
     [
@@ -269,8 +245,8 @@ fn above_field(symbol: Option<EntrySymbol<'_>>) -> Field<'static>
     }
 }
 
-// Returns the fields of an entry point.
-fn entry_fields<'b>(row: &'b EntryRow<'_>) -> [Field<'b>; 6]
+/// Returns the fields of an entry point.
+pub fn entry_fields<'b>(row: &'b EntryRow<'_>) -> [Field<'b>; 6]
     ensures { map field_view result ≡ entry_part_fields (entry_view row.now) }
 {
     let segment = segment_of_found(&row.section);
@@ -285,8 +261,8 @@ fn entry_fields<'b>(row: &'b EntryRow<'_>) -> [Field<'b>; 6]
     ]
 }
 
-// Returns the fields of a header but for the words of its flags.
-fn header_members(header: &Header) -> [Field<'static>; 11]
+/// Returns the fields of a header but for the words of its flags.
+pub fn header_members(header: &Header) -> [Field<'static>; 11]
     ensures { map field_view result ≡ header_members header.now }
 {
     let (cputype, cpusubtype) = (header.cputype, header.cpusubtype);
@@ -318,8 +294,8 @@ fn header_flag(flags: u32, flag: u32) -> Field<'static>
     Field::of_line(word, column_if(flags & flag != 0, 3))
 }
 
-// Returns the words of the flags that have names.
-fn header_flags(flags: u32) -> [Field<'static>; 26]
+/// Returns the words of the flags that have names.
+pub fn header_flags(flags: u32) -> [Field<'static>; 26]
     ensures { map field_view result ≡ header_flags flags }
 {
     [

@@ -1,86 +1,76 @@
 //! The lines of the summary for the entry point, the segments and the sections of an image.
 
-ghost use Rattle.std.specs.Prelude.{ℕ, List, IfOk};
+ghost use Rattle.std.specs.Prelude.{ℕ, List, codes, IfOk};
 ghost use Rattle.std.specs.Io.KnownBytes.{Appends};
 ghost use Rattle.goblin_mach.specs.OpenImage.{IsImage};
-ghost use Rattle.machinfo.specs.PartLines.{part_line, AreLinesOfParts};
-ghost use Rattle.machinfo.specs.declared.word.Part.TheVariants.{Entry, Sections, Segments};
+ghost use Rattle.machinfo.specs.PartLines.{line_after, AreLinesOfParts};
 
-use crate::list_lines::print_in_form;
-use crate::word::{Part, Word};
+use crate::list::use_list;
+use crate::list_lines::Lines;
+use crate::word::Word;
 use goblin_mach::MachO;
 use mach_cli::{Field, FieldsForm, Line, RecordFields};
 use std::alloc::Allocator;
 use std::io;
 use std::io::Write;
 
-// The line of an entry point.
-#[derive(Clone, Copy)]
-struct EntryLine;
+// A word before a line.
+trait Label {
+    ghost use Rattle.std.specs.Prelude.{◌≡◌, ℕ, List};
 
-impl FieldsForm for EntryLine {
-    ghost fields_text = { part_line Entry };
+    ghost word: { List ℕ };
 
-    fn write_both<O: Write>(
-        fields: &[Field<'_>],
-        others: &[Field<'_>],
-        out: &mut O,
-    ) -> io::Result<()> {
-        write!(out, "entry: ")?;
-        Line::write_both(fields, others, out)
-    }
+    // Returns the word.
+    fn word() -> &'static str
+        ensures { result.now ≡ word };
+}
 
-    fn write_record<O: Write>(
-        first: &Field<'_>,
-        fields: &[Field<'_>],
-        shown: RecordFields<'_>,
-        out: &mut O,
-    ) -> io::Result<()> {
-        write!(out, "entry: ")?;
-        Line::write_record(first, fields, shown, out)
+#[derive(Clone, Copy, Drop)]
+struct Entry;
+
+impl Label for Entry {
+    ghost word = { codes "entry: " };
+
+    fn word() -> &'static str {
+        "entry: "
     }
 }
 
-// The line of a segment.
-#[derive(Clone, Copy)]
-struct SegmentLine;
+#[derive(Clone, Copy, Drop)]
+struct Segment;
 
-impl FieldsForm for SegmentLine {
-    ghost fields_text = { part_line Segments };
+impl Label for Segment {
+    ghost word = { codes "segment: " };
 
-    fn write_both<O: Write>(
-        fields: &[Field<'_>],
-        others: &[Field<'_>],
-        out: &mut O,
-    ) -> io::Result<()> {
-        write!(out, "segment: ")?;
-        Line::write_both(fields, others, out)
-    }
-
-    fn write_record<O: Write>(
-        first: &Field<'_>,
-        fields: &[Field<'_>],
-        shown: RecordFields<'_>,
-        out: &mut O,
-    ) -> io::Result<()> {
-        write!(out, "segment: ")?;
-        Line::write_record(first, fields, shown, out)
+    fn word() -> &'static str {
+        "segment: "
     }
 }
 
-// The line of a section.
-#[derive(Clone, Copy)]
-struct SectionLine;
+#[derive(Clone, Copy, Drop)]
+struct Section;
 
-impl FieldsForm for SectionLine {
-    ghost fields_text = { part_line Sections };
+impl Label for Section {
+    ghost word = { codes "section: " };
+
+    fn word() -> &'static str {
+        "section: "
+    }
+}
+
+// A line after a word.
+#[derive(Clone, Copy, Drop)]
+struct After<L>(L);
+
+impl<L: Label> FieldsForm for After<L> {
+    ghost fields_text = { line_after L.word };
 
     fn write_both<O: Write>(
         fields: &[Field<'_>],
         others: &[Field<'_>],
         out: &mut O,
     ) -> io::Result<()> {
-        write!(out, "section: ")?;
+        out.write_all(L::word().as_bytes())?;
         Line::write_both(fields, others, out)
     }
 
@@ -90,7 +80,7 @@ impl FieldsForm for SectionLine {
         shown: RecordFields<'_>,
         out: &mut O,
     ) -> io::Result<()> {
-        write!(out, "section: ")?;
+        out.write_all(L::word().as_bytes())?;
         Line::write_record(first, fields, shown, out)
     }
 }
@@ -105,13 +95,14 @@ pub fn print_parts<A: Allocator, O: Write>(
     ensures { (bytes : List ℕ) → IsImage bytes 0 image.now → IfOk result (λ whole. (text : List ℕ) × AreLinesOfParts limit bytes text whole
         × Appends (O.contents out.old) (O.contents out.new) text) }
 {
-    let word = Word::Part(Part::Entry);
-    let entry = print_in_form(word, EntryLine, "entry: refused", image, 1, 1, out)?;
-    let word = Word::Part(Part::Segments);
-    let refused = "segment: refused";
-    let segments = print_in_form(word, SegmentLine, refused, image, limit, limit, out)?;
-    let word = Word::Part(Part::Sections);
-    let refused = "section: refused";
-    let sections = print_in_form(word, SectionLine, refused, image, limit, limit, out)?;
+    let (form, refused) = (After(Entry), "entry: refused");
+    let entry = Lines { form, refused, limit: 1, left: 1 };
+    let entry = use_list(&entry, Word::Entry, image, out)?;
+    let (form, refused, left) = (After(Segment), "segment: refused", limit);
+    let segments = Lines { form, refused, limit, left };
+    let segments = use_list(&segments, Word::Segments, image, out)?;
+    let (form, refused) = (After(Section), "section: refused");
+    let sections = Lines { form, refused, limit, left };
+    let sections = use_list(&sections, Word::Sections, image, out)?;
     Ok(entry.whole & segments.whole & sections.whole)
 }

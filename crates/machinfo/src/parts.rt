@@ -1,42 +1,28 @@
 //! The parts of an image that are lists of rows.
 
-ghost use Rattle.std.specs.Prelude.{◌≡◌, Some, option_map};
-ghost use Rattle.std.specs.Iterator.{YieldsFirst, YieldsFirstBy};
+ghost use Rattle.std.specs.Prelude.{◌≡◌, Ok, map, option_map};
+ghost use Rattle.std.specs.Iterator.{YieldsFirst};
+ghost use Rattle.std.specs.List.{filter_map};
+ghost use Rattle.mach_base.specs.Text.{texts};
+ghost use Rattle.mach_parts.specs.Segment.{segment_view};
 ghost use Rattle.goblin_mach.specs.ImageFacts.{facts_view};
 ghost use Rattle.goblin_mach.specs.OpenImage.{commands_view, segments_view};
-ghost use Rattle.mach_base.specs.Text.{texts};
-ghost use Rattle.std.specs.List.{filter_map};
-ghost use Rattle.machinfo.specs.Parts.{part_name_of, part_past_name, part_row_read, part_rows_left, part_rows_past, past_of_part};
-ghost use Rattle.machinfo.specs.Parts.{ArePartRows, IsEntryRow, IsSymbolThere, entry_symbol_view, entry_view, header_part, one_row, part_row_view};
-ghost use Rattle.machinfo.specs.Parts.{paths_numbered_left, rpath_rows_from, segment_rows_from};
-ghost use Rattle.machinfo.specs.Parts.{segments_numbered_left, uuid_row_by, uuid_rows_left};
-ghost use Rattle.machinfo.specs.declared.word.Part.TheVariants as parts;
+ghost use Rattle.machinfo.specs.PartFields.{entry_part_fields, header_part_fields, one_row, paths_numbered_left, rpath_part_fields, rpath_rows_from};
+ghost use Rattle.machinfo.specs.PartFields.{segment_part_fields, segment_rows_from, segments_numbered_left, uuid_part_fields};
+ghost use Rattle.machinfo.specs.Parts.{IsEntryRow, IsSymbolThere, entry_symbol_view, entry_view, uuid_row_by, uuid_rows_left};
 
-use crate::sections::{CountedSections, SectionRow, sections_past};
-use crate::word::Part;
+use crate::part_fields::{
+    entry_fields, header_flags, header_members, rpath_fields, segment_fields, uuid_fields,
+};
 use goblin_mach::header::Header;
 use goblin_mach::load_command::LoadCommand;
 use goblin_mach::segment::{NumberedSection, Segment};
 use goblin_mach::{MachO, Result};
 use mach_audit::uuid_by;
+use mach_cli::{FieldsForm, ItemList};
 use std::alloc::Allocator;
-
-/// A row of a part of an image.
-#[derive(Clone, Copy)]
-pub enum PartRow<'a, 'b> {
-    /// A segment, and its number.
-    Segment(usize, &'b Segment<'a>),
-    /// A section.
-    Section(SectionRow),
-    /// A UUID.
-    Uuid(UuidRow),
-    /// A run path, and its number.
-    Rpath(usize, &'a str),
-    /// Where the image begins to run.
-    Entry(EntryRow<'a>),
-    /// The header.
-    Header(Header),
-}
+use std::io;
+use std::io::Write;
 
 /// A UUID, and the cpu of the image.
 #[derive(Clone, Copy)]
@@ -79,8 +65,8 @@ pub struct NumberedSegments<'a, 'b> {
 }
 
 impl<'a, 'b> NumberedSegments<'a, 'b> {
-    // Returns the segments of an image.
-    fn of<A: Allocator>(image: &'b MachO<'a, A>) -> Self
+    /// Returns the segments of an image.
+    pub fn of<A: Allocator>(image: &'b MachO<'a, A>) -> Self
         ensures { segments_numbered_left result ≡ segment_rows_from 0 (segments_view image.now) }
     {
         NumberedSegments {
@@ -88,15 +74,27 @@ impl<'a, 'b> NumberedSegments<'a, 'b> {
             number: 0,
         }
     }
+}
 
-    // Returns the row of the next segment.
-    fn take_next(&mut self) -> Option<Result<PartRow<'a, 'b>>>
-        ensures { YieldsFirstBy part_row_read segments_numbered_left self.old result self.new }
-    {
+impl<'a, 'b> ItemList for NumberedSegments<'a, 'b> {
+    type Item = (usize, &'b Segment<'a>);
+
+    ghost fields = { λ item. segment_part_fields (item.0, segment_view item.1.now) };
+
+    ghost items_left = { segments_numbered_left };
+
+    fn next_item(&mut self) -> Option<Result<(usize, &'b Segment<'a>)>> {
         let number = self.number;
         let segment = self.segments.get(number)?;
         self.number = number + 1;
-        Some(Ok(PartRow::Segment(number, segment)))
+        Some(Ok((number, segment)))
+    }
+
+    fn write_item<F: FieldsForm, O: Write>(
+        segment: &(usize, &'b Segment<'a>),
+        out: &mut O,
+    ) -> io::Result<()> {
+        F::write(&segment_fields(segment.0, segment.1), out)
     }
 }
 
@@ -112,8 +110,8 @@ pub struct UuidRows<'b> {
 }
 
 impl<'b> UuidRows<'b> {
-    // Returns the UUIDs of an image.
-    fn of<A: Allocator>(image: &'b MachO<'_, A>) -> Self
+    /// Returns the UUIDs of an image.
+    pub fn of<A: Allocator>(image: &'b MachO<'_, A>) -> Self
         ensures { uuid_rows_left result ≡ filter_map (uuid_row_by image.now.header) (commands_view image.now) }
     {
         UuidRows {
@@ -141,6 +139,22 @@ impl<'b> UuidRows<'b> {
     }
 }
 
+impl<'b> ItemList for UuidRows<'b> {
+    type Item = UuidRow;
+
+    ghost fields = { uuid_part_fields };
+
+    ghost items_left = { λ s. map (λ u. Ok (uuid_part_fields u)) (uuid_rows_left s) };
+
+    fn next_item(&mut self) -> Option<Result<UuidRow>> {
+        Some(Ok(self.take_next()?))
+    }
+
+    fn write_item<F: FieldsForm, O: Write>(row: &UuidRow, out: &mut O) -> io::Result<()> {
+        F::write(&uuid_fields(row), out)
+    }
+}
+
 /// The run paths from a number on.
 #[derive(Clone, Copy)]
 pub struct NumberedPaths<'a, 'b> {
@@ -151,8 +165,8 @@ pub struct NumberedPaths<'a, 'b> {
 }
 
 impl<'a, 'b> NumberedPaths<'a, 'b> {
-    // Returns the run paths of an image.
-    fn of<A: Allocator>(image: &'b MachO<'a, A>) -> Self
+    /// Returns the run paths of an image.
+    pub fn of<A: Allocator>(image: &'b MachO<'a, A>) -> Self
         ensures { paths_numbered_left result ≡ rpath_rows_from 0 (texts image.now.rpaths.items) }
     {
         NumberedPaths {
@@ -160,15 +174,24 @@ impl<'a, 'b> NumberedPaths<'a, 'b> {
             number: 0,
         }
     }
+}
 
-    // Returns the row of the next path.
-    fn take_next(&mut self) -> Option<Result<PartRow<'a, 'b>>>
-        ensures { YieldsFirstBy part_row_read paths_numbered_left self.old result self.new }
-    {
+impl<'a, 'b> ItemList for NumberedPaths<'a, 'b> {
+    type Item = (usize, &'a str);
+
+    ghost fields = { λ item. rpath_part_fields (item.0, item.1.now) };
+
+    ghost items_left = { paths_numbered_left };
+
+    fn next_item(&mut self) -> Option<Result<(usize, &'a str)>> {
         let number = self.number;
         let path = *self.paths.get(number)?;
         self.number = number + 1;
-        Some(Ok(PartRow::Rpath(number, path)))
+        Some(Ok((number, path)))
+    }
+
+    fn write_item<F: FieldsForm, O: Write>(path: &(usize, &'a str), out: &mut O) -> io::Result<()> {
+        F::write(&rpath_fields(path.0, path.1), out)
     }
 }
 
@@ -185,105 +208,63 @@ fn symbol_at<'a, A: Allocator>(image: &MachO<'a, A>, address: u64) -> Option<Ent
     }
 }
 
-// Returns where an image begins to run, if that is known.
-fn entry_row<'a, A: Allocator>(image: &MachO<'a, A>) -> Option<EntryRow<'a>>
-    ensures { IsEntryRow image.now.entry (facts_view image.now) (option_map entry_view result) }
-{
-    let address = image.entry;
-    if address == 0 {
-        return None;
-    }
-    Some(EntryRow {
-        address,
-        section: image.section_at(address),
-        symbol: symbol_at(image, address),
-    })
-}
+/// Where an image begins to run, if that is known and was not taken.
+#[derive(Clone, Copy)]
+pub struct EntryPoint<'a>(pub Option<EntryRow<'a>>);
 
-// Returns it as a row.
-fn entry_part<'a, 'b, A: Allocator>(image: &'b MachO<'a, A>) -> Option<PartRow<'a, 'b>>
-    ensures { ArePartRows parts.Entry image.now.entry (facts_view image.now) (one_row (option_map part_row_view result)) }
-{
-    match entry_row(image) {
-        Some(row) => Some(PartRow::Entry(row)),
-        None => None,
+impl<'a> EntryPoint<'a> {
+    /// Returns where an image begins to run.
+    pub fn of<A: Allocator>(image: &MachO<'a, A>) -> Self
+        ensures { IsEntryRow image.now.entry (facts_view image.now) (option_map entry_view result.0) }
+    {
+        let address = image.entry;
+        if address == 0 {
+            return EntryPoint(None);
+        }
+        EntryPoint(Some(EntryRow {
+            address,
+            section: image.section_at(address),
+            symbol: symbol_at(image, address),
+        }))
     }
 }
 
-// Returns the row of the header.
-fn header_row<'a, 'b, A: Allocator>(image: &'b MachO<'a, A>) -> Option<PartRow<'a, 'b>>
-    ensures { option_map part_row_view result ≡ Some (header_part image.now.header) }
-{
-    Some(PartRow::Header(image.header))
+impl<'a> ItemList for EntryPoint<'a> {
+    type Item = EntryRow<'a>;
+
+    ghost fields = { λ item. entry_part_fields (entry_view item) };
+
+    ghost items_left = { λ s. one_row entry_part_fields (option_map entry_view s.0) };
+
+    fn next_item(&mut self) -> Option<Result<EntryRow<'a>>> {
+        let row = self.0?;
+        self.0 = None;
+        Some(Ok(row))
+    }
+
+    fn write_item<F: FieldsForm, O: Write>(row: &EntryRow<'a>, out: &mut O) -> io::Result<()> {
+        F::write(&entry_fields(row), out)
+    }
 }
 
-/// What is left of the rows of a part of an image.
-#[derive(Drop)]
-pub enum PartList<'a, 'b> {
-    Segments(NumberedSegments<'a, 'b>),
-    Sections(CountedSections<'a, 'b>, usize),
-    Uuids(UuidRows<'b>),
-    Rpaths(NumberedPaths<'a, 'b>),
-    One(Option<PartRow<'a, 'b>>),
-}
+/// The header of an image, if it was not taken.
+#[derive(Clone, Copy)]
+pub struct OneHeader(pub Option<Header>);
 
-impl<'a, 'b> PartList<'a, 'b> {
-    /// Returns the rows of a part of an image.
-    pub fn of<A: Allocator>(part: Part, image: &'b MachO<'a, A>) -> Self
-        ensures rows { ArePartRows part image.now.entry (facts_view image.now) (part_rows_left result) }
-        ensures past { part_rows_past result ≡ past_of_part part (facts_view image.now) }
-        ensures name { part_name_of result ≡ part_past_name part }
-    {
-        match part {
-            Part::Segments => PartList::Segments(NumberedSegments::of(image)),
-            Part::Sections => PartList::Sections(
-                CountedSections::of(image),
-                sections_past(image.segments.as_slice()),
-            ),
-            Part::Uuid => PartList::Uuids(UuidRows::of(image)),
-            Part::Rpaths => PartList::Rpaths(NumberedPaths::of(image)),
-            Part::Entry => PartList::One(entry_part(image)),
-            Part::Header => PartList::One(header_row(image)),
-        }
+impl ItemList for OneHeader {
+    type Item = Header;
+
+    ghost fields = { header_part_fields };
+
+    ghost items_left = { λ s. one_row header_part_fields s.0 };
+
+    fn next_item(&mut self) -> Option<Result<Header>> {
+        let header = self.0?;
+        self.0 = None;
+        Some(Ok(header))
     }
 
-    /// Returns the next row, or the error if it can't be read.
-    pub fn take_next(&mut self) -> Option<Result<PartRow<'a, 'b>>>
-        ensures { YieldsFirstBy part_row_read part_rows_left self.old result self.new }
-    {
-        match self {
-            PartList::Segments(list) => list.take_next(),
-            PartList::Sections(list, _) => match list.take_next()? {
-                Ok(section) => Some(Ok(PartRow::Section(section))),
-                Err(error) => Some(Err(error)),
-            },
-            PartList::Uuids(list) => Some(Ok(PartRow::Uuid(list.take_next()?))),
-            PartList::Rpaths(list) => list.take_next(),
-            PartList::One(row) => {
-                let taken = (*row)?;
-                *row = None;
-                Some(Ok(taken))
-            }
-        }
-    }
-
-    /// Returns how many more rows are claimed past the end of the bytes.
-    pub fn past(&self) -> usize
-        ensures { result ≡ part_rows_past self.now }
-    {
-        match self {
-            PartList::Sections(_, past) => *past,
-            _ => 0,
-        }
-    }
-
-    /// Returns the name of such rows.
-    pub fn past_name(&self) -> &'static str
-        ensures { result.now ≡ part_name_of self.now }
-    {
-        match self {
-            PartList::Sections(..) => "sections",
-            _ => "",
-        }
+    fn write_item<F: FieldsForm, O: Write>(header: &Header, out: &mut O) -> io::Result<()> {
+        F::write_both(&header_members(header), &header_flags(header.flags), out)
     }
 }

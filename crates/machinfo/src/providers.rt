@@ -4,10 +4,13 @@ ghost use Rattle.std.specs.Prelude.{◌≡◌};
 ghost use Rattle.std.specs.Iterator.{YieldsFirstBy};
 ghost use Rattle.mach_base.specs.Text.{texts};
 ghost use Rattle.goblin_mach.specs.ImageSlots.{symbol_table_view};
+ghost use Rattle.machinfo.specs.Lists.{past_name};
 ghost use Rattle.machinfo.specs.ProvidedSymbols.{provided_in, provided_left, provided_read, symbols_past_in};
+ghost use Rattle.machinfo.specs.declared.word.Word.TheVariants.{Providers};
 
 use goblin_mach::symbols::SymbolIterator;
 use goblin_mach::{MachO, Provider, Result};
+use mach_cli::PastTheEnd;
 use std::alloc::Allocator;
 
 /// A symbol, and its provider.
@@ -22,29 +25,26 @@ pub struct Provided<'a> {
 pub struct ProvidedSymbols<'a, 'b, A: Allocator> {
     pub image: &'b MachO<'a, A>,
     pub symbols: SymbolIterator<'a>,
-    /// How many more symbols the table claims.
-    pub past: usize,
 }
 
 impl<'a, 'b, A: Allocator> ProvidedSymbols<'a, 'b, A> {
-    /// Returns the symbols of an image that have a provider.
-    pub fn of(image: &'b MachO<'a, A>) -> Self
-        ensures left { provided_left result ≡ provided_in image.now.header.flags (texts image.now.libs.items) (symbol_table_view image.now) }
-        ensures past { result.past ≡ symbols_past_in (symbol_table_view image.now) }
+    /// Returns the symbols of an image that have a provider, and how many more symbols its table claims past the end of the bytes.
+    pub fn of(image: &'b MachO<'a, A>) -> (Self, PastTheEnd)
+        ensures left { provided_left result.0 ≡ provided_in image.now.header.flags (texts image.now.libs.items) (symbol_table_view image.now) }
+        ensures past { result.1.count ≡ symbols_past_in (symbol_table_view image.now) }
+        ensures name { result.1.name.now ≡ past_name Providers }
     {
+        let name = "symbols";
         let Some(table) = &image.symbols else {
-            return ProvidedSymbols {
-                image,
-                symbols: SymbolIterator::default(),
-                past: 0,
-            };
+            let symbols = SymbolIterator::default();
+            let past = PastTheEnd { count: 0, name };
+            return (ProvidedSymbols { image, symbols }, past);
         };
         let in_bounds = table.in_bounds();
-        ProvidedSymbols {
-            image,
-            symbols: in_bounds.iter(),
-            past: table.len() - in_bounds.len(),
-        }
+        let count = table.len() - in_bounds.len();
+        let symbols = in_bounds.iter();
+        let past = PastTheEnd { count, name };
+        (ProvidedSymbols { image, symbols }, past)
     }
 
     /// Returns the next symbol with its provider, or the error if either can't be read.

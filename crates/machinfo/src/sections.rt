@@ -5,12 +5,20 @@ ghost use Rattle.std.specs.Iterator.{YieldsFirstBy};
 ghost use Rattle.mach_base.specs.Answer.{Reads};
 ghost use Rattle.mach_parts.specs.Segment.{segment_view};
 ghost use Rattle.goblin_mach.specs.OpenImage.{segments_view};
+ghost use Rattle.machinfo.specs.Lists.{past_name};
+ghost use Rattle.machinfo.specs.PartFields.{section_part_fields};
+ghost use Rattle.machinfo.specs.RowFields.{fields_read};
 ghost use Rattle.machinfo.specs.SectionRows.{section_row_at, section_row_read, section_rows_in, sections_counted_left, sections_begun, sections_past};
+ghost use Rattle.machinfo.specs.declared.word.Word.TheVariants.{Sections};
 
+use crate::part_fields::{section_fields, stub_fields};
 use crate::segments::SectionList;
 use goblin_mach::segment::{NumberedSection, Segment};
 use goblin_mach::{MachO, Result};
+use mach_cli::{FieldsForm, ItemList, PastTheEnd};
 use std::alloc::Allocator;
+use std::io;
+use std::io::Write;
 
 /// A section, and its number among those of all segments, counted from 1.
 #[derive(Clone, Copy)]
@@ -42,8 +50,8 @@ fn begun(segment: &Segment<'_>) -> u32
     (segment.nsects as usize).min(in_bounds) as u32
 }
 
-/// Returns how many sections some segments claim past the end of the bytes, at most the last number of 64 bits.
-pub fn sections_past(segments: &[Segment<'_>]) -> usize
+// Returns how many sections some segments claim past the end of the bytes, at most the last number of 64 bits.
+fn sections_past(segments: &[Segment<'_>]) -> usize
     ensures { result ≡ sections_past (map segment_view segments.now) }
 {
     let mut past = 0usize;
@@ -63,16 +71,22 @@ fn row_at(segment: &Segment<'_>, n: usize, taken: u32, before: u64) -> Result<Se
 }
 
 impl<'a, 'b> CountedSections<'a, 'b> {
-    /// Returns the sections of an image.
-    pub fn of<A: Allocator>(image: &'b MachO<'a, A>) -> Self
-        ensures { sections_counted_left result ≡ section_rows_in 0 0 (segments_view image.now) }
+    /// Returns the sections of an image, and how many more its segments claim past the end of the bytes.
+    pub fn of<A: Allocator>(image: &'b MachO<'a, A>) -> (Self, PastTheEnd)
+        ensures left { sections_counted_left result.0 ≡ section_rows_in 0 0 (segments_view image.now) }
+        ensures past { result.1.count ≡ sections_past (segments_view image.now) }
+        ensures name { result.1.name.now ≡ past_name Sections }
     {
-        CountedSections {
-            segments: image.segments.as_slice(),
+        let segments = image.segments.as_slice();
+        let count = sections_past(segments);
+        let sections = CountedSections {
+            segments,
             segment: 0,
             taken: 0,
             before: 0,
-        }
+        };
+        let name = "sections";
+        (sections, PastTheEnd { count, name })
     }
 
     /// Returns the next section, or the error if it can't be read.
@@ -93,5 +107,23 @@ impl<'a, 'b> CountedSections<'a, 'b> {
             self.segment += 1;
             self.taken = 0;
         }
+    }
+}
+
+impl<'a, 'b> ItemList for CountedSections<'a, 'b> {
+    type Item = SectionRow;
+
+    ghost fields = { section_part_fields };
+
+    ghost items_left = { λ s. fields_read section_part_fields (sections_counted_left s) };
+
+    #[tactic(auto, using(crate::proofs::Lists::next_fields))]
+    fn next_item(&mut self) -> Option<Result<SectionRow>> {
+        self.take_next()
+    }
+
+    fn write_item<F: FieldsForm, O: Write>(row: &SectionRow, out: &mut O) -> io::Result<()> {
+        let stubs = stub_fields(&row.section.section);
+        F::write_both(&section_fields(row), &stubs, out)
     }
 }

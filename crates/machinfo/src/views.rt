@@ -12,16 +12,17 @@ ghost use Rattle.machinfo.specs.RowFields.{has_names};
 use crate::counts::{COUNTED, Form, print_counts};
 use crate::export_rows::{ExportForm, print_exports_of, walk_of};
 use crate::imports::ImportList;
-use crate::list_lines::print_in_form;
+use crate::list::{ListUse, use_list};
+use crate::list_lines::Lines;
 use crate::part_lines::print_parts;
 use crate::signed::print_signed;
 use crate::state::print_state;
 use crate::summary::{print_front, print_used};
-use crate::word::{Choice, Part, Word};
+use crate::word::{Choice, Word};
 use goblin_mach::{AllStretches, MachO};
 use mach_audit::state_of;
 use mach_cli::{
-    AddressLinesOf, ImageView, InForm, Line, Outcome, Pairs, ShowFailure, print_cut, print_listing,
+    AddressLinesOf, ImageView, Line, Outcome, Pairs, PastTheEnd, ShowFailure, print_cut,
 };
 use std::alloc::Allocator;
 use std::io;
@@ -74,10 +75,13 @@ fn print_list<A: Allocator, O: Write>(
     ensures { (bytes : List ℕ) → IsImage bytes 0 image.now → IfOk result (λ outcome. (text : List ℕ)
         × AreImageListLines word limit left bytes text outcome.whole outcome.left × Appends (O.contents out.old) (O.contents out.new) text) }
 {
+    let refused = "refused";
     if has_names(word) {
-        print_in_form(word, Pairs, "refused", image, limit, left, out)
+        let form = Pairs;
+        use_list(&Lines { form, refused, limit, left }, word, image, out)
     } else {
-        print_in_form(word, Line, "refused", image, limit, left, out)
+        let form = Line;
+        use_list(&Lines { form, refused, limit, left }, word, image, out)
     }
 }
 
@@ -119,8 +123,9 @@ fn print_imports<A: Allocator + Clone, O: Write>(
         parts: &parts,
         bindings: image.bindings(),
     };
-    let mut lines = InForm { list, form: Line };
-    Ok(print_listing(&mut lines, "refused", limit, left, out)?)
+    let (form, refused) = (Line, "refused");
+    let lines = Lines { form, refused, limit, left };
+    Ok(lines.of_list(list, PastTheEnd::NONE, out)?)
 }
 
 // Whether the lines of a word's list have the names of fields.
@@ -128,7 +133,7 @@ fn has_names(word: Word) -> bool
     ensures { result ≡ has_names word }
 {
     match word {
-        Word::Commands | Word::CommandsAlone | Word::Part(Part::Header) => true,
+        Word::Commands | Word::CommandsAlone | Word::Header => true,
         _ => false,
     }
 }

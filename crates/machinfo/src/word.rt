@@ -45,15 +45,6 @@ pub enum Word {
     Rebases,
     /// Its weak binds.
     Weak,
-    /// A part of it.
-    Part(Part),
-    /// How it is hardened.
-    Security,
-}
-
-/// A part of an image that is a list of rows, none of which takes memory.
-#[derive(Clone, Copy, PartialEq)]
-pub enum Part {
     /// Its segments.
     Segments,
     /// The sections of all segments.
@@ -66,6 +57,8 @@ pub enum Part {
     Entry,
     /// Its header.
     Header,
+    /// How it is hardened.
+    Security,
 }
 
 impl Choice {
@@ -100,12 +93,12 @@ impl Word {
             "libraries" => Some(Word::Libraries),
             "rebases" => Some(Word::Rebases),
             "weak" => Some(Word::Weak),
-            "segments" => Some(Word::Part(Part::Segments)),
-            "sections" => Some(Word::Part(Part::Sections)),
-            "uuid" => Some(Word::Part(Part::Uuid)),
-            "rpaths" => Some(Word::Part(Part::Rpaths)),
-            "entrypoint" => Some(Word::Part(Part::Entry)),
-            "header" => Some(Word::Part(Part::Header)),
+            "segments" => Some(Word::Segments),
+            "sections" => Some(Word::Sections),
+            "uuid" => Some(Word::Uuid),
+            "rpaths" => Some(Word::Rpaths),
+            "entrypoint" => Some(Word::Entry),
+            "header" => Some(Word::Header),
             "security" => Some(Word::Security),
             _ => None,
         }
@@ -129,12 +122,12 @@ impl Word {
             Word::Libraries => "libraries",
             Word::Rebases => "rebases",
             Word::Weak => "weak",
-            Word::Part(Part::Segments) => "segments",
-            Word::Part(Part::Sections) => "sections",
-            Word::Part(Part::Uuid) => "uuid",
-            Word::Part(Part::Rpaths) => "rpaths",
-            Word::Part(Part::Entry) => "entrypoint",
-            Word::Part(Part::Header) => "header",
+            Word::Segments => "segments",
+            Word::Sections => "sections",
+            Word::Uuid => "uuid",
+            Word::Rpaths => "rpaths",
+            Word::Entry => "entrypoint",
+            Word::Header => "header",
             Word::Security => "security",
         }
     }

@@ -20,24 +20,6 @@ pub trait ItemList {
     /// </details>
     fn next_item(&mut self) -> Option<goblin_mach::Result<Self::Item>>;
 
-    /// Returns how many more items the whole list claims, with records that begin past the end of the bytes.
-    ///
-    /// <details><summary>Proved</summary>
-    ///
-    /// - `result ≡ items_past self`
-    ///
-    /// </details>
-    fn items_past(&self) -> usize;
-
-    /// Returns the plural name of its items, for the line about those past the end.
-    ///
-    /// <details><summary>Proved</summary>
-    ///
-    /// - `result ≡ items_name self`
-    ///
-    /// </details>
-    fn items_name(&self) -> &'static str;
-
     /// Writes the fields of an item in a form.
     ///
     /// <details><summary>Proved</summary>
@@ -48,12 +30,28 @@ pub trait ItemList {
     fn write_item<F: FieldsForm, O: Write>(item: &Self::Item, out: &mut O) -> io::Result<()>;
 }
 
+/// How many more items a list claims, with records that begin past the end of the bytes.
+#[derive(Clone, Copy)]
+pub struct PastTheEnd {
+    /// Their number.
+    pub count: usize,
+    /// What such items are called, as a plural.
+    pub name: &'static str,
+}
+
+impl PastTheEnd {
+    /// A list claims no more.
+    pub const NONE: PastTheEnd = PastTheEnd { count: 0, name: "" };
+}
+
 /// A list whose items are written in a form.
 pub struct InForm<L, F> {
     /// The list.
     pub list: L,
     /// The form.
     pub form: F,
+    /// How many more items it claims.
+    pub past: PastTheEnd,
 }
 
 impl<L: ItemList, F: FieldsForm> Listing for InForm<L, F> {
@@ -64,11 +62,11 @@ impl<L: ItemList, F: FieldsForm> Listing for InForm<L, F> {
     }
 
     fn past(&self) -> usize {
-        self.list.items_past()
+        self.past.count
     }
 
     fn past_name(&self) -> &'static str {
-        self.list.items_name()
+        self.past.name
     }
 
     fn write_row<O: Write>(row: &L::Item, out: &mut O) -> io::Result<()> {

@@ -91,7 +91,7 @@ pub use crate::generated::mach_cli::image_files::ImageFiles;
 pub use crate::generated::mach_cli::image_kinds::image_kind;
 pub use crate::generated::mach_cli::image_view::{ImageView, Outcome};
 pub use crate::generated::mach_cli::images_view::ImagesView;
-pub use crate::generated::mach_cli::items::{InForm, ItemList};
+pub use crate::generated::mach_cli::items::{InForm, ItemList, PastTheEnd};
 pub use crate::generated::mach_cli::json::array::{
     comma_before, print_array, print_empty, print_end, print_end_past, print_member, then,
 };

@@ -21,14 +21,6 @@ impl<'p, 'a> ItemList for Rows<'p, 'a, '_> {
         self.next()
     }
 
-    fn items_past(&self) -> usize {
-        0
-    }
-
-    fn items_name(&self) -> &'static str {
-        ""
-    }
-
     fn write_item<F: FieldsForm, O: Write>(row: &Row<'p, 'a>, out: &mut O) -> io::Result<()> {
         write_row::<F, O>(row, out)
     }

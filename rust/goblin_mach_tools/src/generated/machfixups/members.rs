@@ -3,7 +3,7 @@
 #![forbid(unsafe_code)]
 
 use crate::generated::mach_cli::{
-    InForm, ListProgress, Object, Outcome, print_end, print_member, then,
+    InForm, ListProgress, Object, Outcome, PastTheEnd, print_end, print_member, then,
 };
 use crate::generated::machfixups::lists::ImageRows;
 use crate::generated::machfixups::rows::Rows;
@@ -43,6 +43,10 @@ fn write_list<O: Write>(
     limit: usize,
     out: &mut O,
 ) -> io::Result<ListProgress> {
-    let mut objects = InForm { list, form: Object };
+    let mut objects = InForm {
+        list,
+        form: Object,
+        past: PastTheEnd::NONE,
+    };
     print_member(name, &mut objects, limit, out)
 }

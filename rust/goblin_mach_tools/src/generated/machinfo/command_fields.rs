@@ -2,12 +2,28 @@
 //! What is shown of a load command, field by field: as a line, and as an object of JSON.
 #![forbid(unsafe_code)]
 
-use crate::generated::mach_cli::{Field, FieldsForm, RecordFields, Value};
-use crate::generated::machinfo::commands::NumberedCommand;
+use crate::generated::mach_cli::{Field, FieldsForm, ItemList, RecordFields, Value};
+use crate::generated::machinfo::commands::{NumberedCommand, NumberedCommands};
 use crate::shim::io;
 use crate::shim::io::Write;
+use goblin_mach::Result;
 use goblin_mach::command_fields::command_slice;
 use goblin_mach::load_command::{LoadCommand, command_name};
+
+impl<'a, 'b> ItemList for NumberedCommands<'a, 'b> {
+    type Item = NumberedCommand<'a, 'b>;
+
+    fn next_item(&mut self) -> Option<Result<NumberedCommand<'a, 'b>>> {
+        Some(Ok(self.take_next()?))
+    }
+
+    fn write_item<F: FieldsForm, O: Write>(
+        command: &NumberedCommand<'a, 'b>,
+        out: &mut O,
+    ) -> io::Result<()> {
+        write_command::<F, O>(command, out)
+    }
+}
 
 /// Writes the fields of a command in a form: its number, its offset, its size and its name, and then those of its record.
 ///

@@ -2,31 +2,33 @@
 //! What is shown of a row of load commands, field by field: as a line, and as an object of JSON.
 #![forbid(unsafe_code)]
 
-use crate::generated::mach_cli::{Field, FieldsForm, Value, name_in_field};
+use crate::generated::mach_cli::{Field, FieldsForm, ItemList, Value, name_in_field};
 use crate::generated::machinfo::command_fields::write_command;
-use crate::generated::machinfo::command_rows::CommandRow;
+use crate::generated::machinfo::command_rows::{CommandRow, CommandRows};
 use crate::generated::machinfo::command_sections::{CommandSection, SectionRecord};
 use crate::generated::machinfo::part_fields::section_type;
 use crate::generated::machinfo::registers::Register;
 use crate::shim::io;
 use crate::shim::io::Write;
+use goblin_mach::Result;
 use goblin_mach::load_command::{Section32, Section64};
 
-/// Writes the fields of a row in a form.
-///
-/// <details><summary>Proved</summary>
-///
-/// - if `Ok`: `Appends (O.contents out.old) (O.contents out.new) (F.fields_text (defined.command_row_fields (command_row_view row)))`
-///
-/// </details>
-pub fn write_command_row<F: FieldsForm, O: Write>(
-    row: &CommandRow<'_, '_>,
-    out: &mut O,
-) -> io::Result<()> {
-    match row {
-        CommandRow::Itself(command) => write_command::<F, O>(command, out),
-        CommandRow::Section(section) => write_section::<F, O>(section, out),
-        CommandRow::Register(register) => F::write(&register_fields(*register), out),
+impl<'a, 'b> ItemList for CommandRows<'a, 'b> {
+    type Item = CommandRow<'a, 'b>;
+
+    fn next_item(&mut self) -> Option<Result<CommandRow<'a, 'b>>> {
+        Some(Ok(self.take_next()?))
+    }
+
+    fn write_item<F: FieldsForm, O: Write>(
+        row: &CommandRow<'a, 'b>,
+        out: &mut O,
+    ) -> io::Result<()> {
+        match row {
+            CommandRow::Itself(command) => write_command::<F, O>(command, out),
+            CommandRow::Section(section) => write_section::<F, O>(section, out),
+            CommandRow::Register(register) => F::write(&register_fields(*register), out),
+        }
     }
 }
 

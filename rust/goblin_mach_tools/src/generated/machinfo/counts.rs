@@ -2,8 +2,10 @@
 //! How many items the lists of an image have.
 #![forbid(unsafe_code)]
 
-use crate::generated::mach_cli::{InForm, ItemList, Line, ListProgress, count_rows, word_if};
-use crate::generated::machinfo::list::ImageList;
+use crate::generated::mach_cli::{
+    InForm, ItemList, Line, ListProgress, Outcome, PastTheEnd, count_rows, word_if,
+};
+use crate::generated::machinfo::list::{ListUse, use_list};
 use crate::generated::machinfo::word::Word;
 use crate::shim::io;
 use crate::shim::io::Write;
@@ -107,27 +109,36 @@ pub fn print_counts<O: Write>(
 ) -> io::Result<bool> {
     let mut whole = true;
     for word in words {
-        whole &= print_count(form, *word, image, limit, out)?;
+        let word = *word;
+        whole &= use_list(&Count { form, word, limit }, word, image, out)?.whole;
     }
     Ok(whole)
 }
 
-// Prints how many items a list has, and returns whether all can be read and there are no more.
-fn print_count<O: Write>(
+// Prints how many items the list of a word has. It answers whether all can be read and there are no more.
+#[derive(Clone, Copy)]
+struct Count {
     form: Form,
     word: Word,
-    image: &MachO<'_>,
     limit: usize,
-    out: &mut O,
-) -> io::Result<bool> {
-    let mut list = InForm {
-        list: ImageList::of(word, image),
-        form: Line,
-    };
-    let past = list.list.items_past();
-    let reported = count_rows(&mut list, limit);
-    write_count(form, word, limit, reported, past, out)?;
-    Ok(reported.whole & !reported.more & (past == 0))
+}
+
+impl ListUse for Count {
+    fn of_list<L: ItemList, O: Write>(
+        &self,
+        list: L,
+        past: PastTheEnd,
+        out: &mut O,
+    ) -> io::Result<Outcome> {
+        let form = Line;
+        let mut list = InForm { list, form, past };
+        let reported = count_rows(&mut list, self.limit);
+        write_count(self.form, self.word, self.limit, reported, past.count, out)?;
+        Ok(Outcome {
+            whole: reported.whole & !reported.more & (past.count == 0),
+            left: reported.left,
+        })
+    }
 }
 
 // Whether a list has no rows, and none is claimed past the end of the bytes.

@@ -3,7 +3,7 @@
 #![forbid(unsafe_code)]
 
 use crate::generated::mach_cli::{Escaped, FieldsForm, JsonString, Line, Listing, Object};
-use crate::generated::machinfo::fields::write_library;
+use crate::generated::machinfo::lists::write_library;
 use crate::generated::machinfo::text::{PlatformObject, PlatformText, ToolText};
 use crate::shim::io;
 use crate::shim::io::Write;

@@ -5,7 +5,7 @@
 use crate::generated::mach_cli::{
     Field, FieldsForm, ItemList, Value, ordinal_of, provider_name, section_name_with, stretch_name,
 };
-use crate::generated::machinfo::fields::{column_if, flag_field};
+use crate::generated::machinfo::lists::{column_if, flag_field};
 use crate::generated::machinfo::part_fields::text_or_dash;
 use crate::shim::io;
 use crate::shim::io::Write;
@@ -38,14 +38,6 @@ impl<'a, 'b, 'p> ItemList for ImportList<'a, 'b, 'p> {
             Ok(binding) => Some(Ok(placed(self.parts, binding))),
             Err(error) => Some(Err(error)),
         }
-    }
-
-    fn items_past(&self) -> usize {
-        0
-    }
-
-    fn items_name(&self) -> &'static str {
-        ""
     }
 
     fn write_item<F: FieldsForm, O: Write>(import: &Import<'a, 'p>, out: &mut O) -> io::Result<()> {

@@ -3,13 +3,13 @@
 #![forbid(unsafe_code)]
 
 use crate::generated::mach_cli::{
-    AddressObjectsOf, ImageView, InForm, ItemList, Object, Outcome, ShowFailure, print_end_past,
-    print_member,
+    AddressObjectsOf, ImageView, InForm, ItemList, Object, Outcome, PastTheEnd, ShowFailure,
+    print_end_past, print_member,
 };
 use crate::generated::machinfo::counts::{COUNTED, Form, print_counts};
 use crate::generated::machinfo::export_rows::{ExportForm, print_exports_of, walk_of};
 use crate::generated::machinfo::imports::ImportList;
-use crate::generated::machinfo::list::ImageList;
+use crate::generated::machinfo::list::{ListUse, use_list};
 use crate::generated::machinfo::members::write_front;
 use crate::generated::machinfo::word::{Choice, Word};
 use crate::shim::io;
@@ -51,7 +51,8 @@ fn write_rows<O: Write>(
     left: usize,
     out: &mut O,
 ) -> io::Result<Outcome> {
-    write_items(word.name(), ImageList::of(word, image), left, out)
+    let name = word.name();
+    use_list(&Members { name, left }, word, image, out)
 }
 
 // Writes the exports of an image as objects as a walk meets them, at most `left` of them. A fault of the trie is the last object.
@@ -80,21 +81,30 @@ fn write_imports<O: Write>(
         parts: &parts,
         bindings: image.bindings(),
     };
-    Ok(write_items("imports", list, left, out)?)
+    let name = "imports";
+    Ok(Members { name, left }.of_list(list, PastTheEnd::NONE, out)?)
 }
 
 // Writes the items of a list as an array of this name, at most `left` of them; whether there are more; and how many more are claimed
-// past the end of the bytes. Returns whether all were written and can be read, and how many more may be written.
-fn write_items<L: ItemList, O: Write>(
-    name: &str,
-    list: L,
+// past the end of the bytes. It answers whether all were written and can be read, and how many more may be written.
+#[derive(Clone, Copy)]
+struct Members<'a> {
+    name: &'a str,
     left: usize,
-    out: &mut O,
-) -> io::Result<Outcome> {
-    let past = list.items_past();
-    let mut list = InForm { list, form: Object };
-    let reported = print_member(name, &mut list, left, out)?;
-    print_end_past(reported, past, out)
+}
+
+impl<'a> ListUse for Members<'a> {
+    fn of_list<L: ItemList, O: Write>(
+        &self,
+        list: L,
+        past: PastTheEnd,
+        out: &mut O,
+    ) -> io::Result<Outcome> {
+        let form = Object;
+        let mut list = InForm { list, form, past };
+        let reported = print_member(self.name, &mut list, self.left, out)?;
+        print_end_past(reported, past.count, out)
+    }
 }
 
 // Writes the summary as members, with how many items each list has, counted up to `limit`. Returns whether all items can be read

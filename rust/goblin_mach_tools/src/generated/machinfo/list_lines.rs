@@ -2,31 +2,32 @@
 //! The lines of the rows of a list of an image.
 #![forbid(unsafe_code)]
 
-use crate::generated::mach_cli::{FieldsForm, InForm, Outcome, print_listing};
-use crate::generated::machinfo::list::ImageList;
-use crate::generated::machinfo::word::Word;
+use crate::generated::mach_cli::{
+    FieldsForm, InForm, ItemList, Outcome, PastTheEnd, print_listing,
+};
+use crate::generated::machinfo::list::ListUse;
 use crate::shim::io;
 use crate::shim::io::Write;
-use goblin_mach::MachO;
 
-/// Prints the rows of a word's list in a form, at most `left` of them; a row that can't be read is `refused` and why. Returns whether
-/// all rows were printed and can be read, and how many more may be printed.
-///
-/// <details><summary>Proved</summary>
-///
-/// - for each `bytes : List ℕ`, if `IsImage bytes 0 image`, if `Ok(outcome)`: there is `text : List ℕ` with: `AreRowLines word F.fields_text refused limit left bytes text outcome.whole outcome.left × Appends (O.contents out.old) (O.contents out.new) text`
-///
-/// </details>
-pub fn print_in_form<F: FieldsForm, O: Write>(
-    word: Word,
-    form: F,
-    refused: &str,
-    image: &MachO<'_>,
-    limit: usize,
-    left: usize,
-    out: &mut O,
-) -> io::Result<Outcome> {
-    let list = ImageList::of(word, image);
-    let mut lines = InForm { list, form };
-    print_listing(&mut lines, refused, limit, left, out)
+/// Prints the rows of a list in a form, at most `left` of them; a row that can't be read is `refused` and why. It answers whether all
+/// rows were printed and can be read, and how many more may be printed.
+#[derive(Clone, Copy)]
+pub struct Lines<'a, F> {
+    pub form: F,
+    pub refused: &'a str,
+    pub limit: usize,
+    pub left: usize,
+}
+
+impl<'a, F: FieldsForm + Copy> ListUse for Lines<'a, F> {
+    fn of_list<L: ItemList, O: Write>(
+        &self,
+        list: L,
+        past: PastTheEnd,
+        out: &mut O,
+    ) -> io::Result<Outcome> {
+        let form = self.form;
+        let mut lines = InForm { list, form, past };
+        print_listing(&mut lines, self.refused, self.limit, self.left, out)
+    }
 }

@@ -3,14 +3,14 @@
 #![forbid(unsafe_code)]
 
 use crate::generated::mach_cli::{
-    InForm, ListProgress, Object, StringOrNull, comma_before, image_kind, print_member, then,
+    InForm, ListProgress, Object, PastTheEnd, StringOrNull, comma_before, image_kind, print_member,
+    then,
 };
 use crate::generated::machinfo::fact::FactObjects;
-use crate::generated::machinfo::list::ImageList;
+use crate::generated::machinfo::parts::EntryPoint;
 use crate::generated::machinfo::segments::write_segments;
 use crate::generated::machinfo::signed::{is_ad_hoc, is_readable};
 use crate::generated::machinfo::summary::flag_short_name;
-use crate::generated::machinfo::word::{Part, Word};
 use crate::shim::io;
 use crate::shim::io::Write;
 use goblin_mach::audit::{CommandFacts, FactList, Question, State, state_of};
@@ -47,8 +47,9 @@ pub fn write_front<O: Write>(image: &MachO<'_>, limit: usize, out: &mut O) -> io
 // Writes the row of the entry point, if there is one, as the list of that name.
 fn write_entry<O: Write>(image: &MachO<'_>, out: &mut O) -> io::Result<ListProgress> {
     let mut list = InForm {
-        list: ImageList::of(Word::Part(Part::Entry), image),
+        list: EntryPoint::of(image),
         form: Object,
+        past: PastTheEnd::NONE,
     };
     let reported = print_member("entrypoint", &mut list, 1, out)?;
     Ok(reported)

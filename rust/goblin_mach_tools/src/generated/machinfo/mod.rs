@@ -33,16 +33,15 @@ mod command_sections;
 mod commands;
 mod export_rows;
 mod exports;
-mod fields;
 mod imports;
 mod list;
 mod list_lines;
+mod lists;
 mod notes;
 mod part_fields;
 mod parts;
 mod providers;
 mod registers;
-mod row;
 mod sections;
 
 // What a call selects.

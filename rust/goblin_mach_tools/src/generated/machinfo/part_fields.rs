@@ -2,15 +2,11 @@
 //! What the rows of parts of an image show, field by field: as lines, and as objects of JSON.
 #![forbid(unsafe_code)]
 
-use crate::generated::mach_cli::{
-    Field, FieldsForm, Value, if_not_empty, image_kind, name_in_field, rights,
-};
-use crate::generated::machinfo::fields::{column_if, flag_field};
-use crate::generated::machinfo::parts::{EntryRow, EntrySymbol, PartRow, UuidRow};
+use crate::generated::mach_cli::{Field, Value, if_not_empty, image_kind, name_in_field, rights};
+use crate::generated::machinfo::lists::{column_if, flag_field};
+use crate::generated::machinfo::parts::{EntryRow, EntrySymbol, UuidRow};
 use crate::generated::machinfo::sections::SectionRow;
 use crate::generated::machinfo::summary::flag_short_name;
-use crate::shim::io;
-use crate::shim::io::Write;
 use goblin_mach::header::{
     Header, MH_ALLMODSBOUND, MH_ALLOW_STACK_EXECUTION, MH_APP_EXTENSION_SAFE, MH_BINDATLOAD,
     MH_BINDS_TO_WEAK, MH_CANONICAL, MH_DEAD_STRIPPABLE_DYLIB, MH_DYLDLINK, MH_FORCE_FLAT,
@@ -22,29 +18,6 @@ use goblin_mach::header::{
 use goblin_mach::load_command::Section64;
 use goblin_mach::names::cpu_name;
 use goblin_mach::segment::{NumberedSection, Segment};
-
-/// Writes the fields of a row in a form.
-///
-/// <details><summary>Proved</summary>
-///
-/// - if `Ok`: `Appends (O.contents out.old) (O.contents out.new) (F.fields_text (part_fields (part_row_view row)))`
-///
-/// </details>
-pub fn write_part<F: FieldsForm, O: Write>(row: &PartRow<'_, '_>, out: &mut O) -> io::Result<()> {
-    match row {
-        PartRow::Segment(number, segment) => F::write(&segment_fields(*number, segment), out),
-        PartRow::Section(row) => {
-            let stubs = stub_fields(&row.section.section);
-            F::write_both(&section_fields(row), &stubs, out)
-        }
-        PartRow::Uuid(row) => F::write(&uuid_fields(row), out),
-        PartRow::Rpath(number, path) => F::write(&rpath_fields(*number, path), out),
-        PartRow::Entry(row) => F::write(&entry_fields(row), out),
-        PartRow::Header(header) => {
-            F::write_both(&header_members(header), &header_flags(header.flags), out)
-        }
-    }
-}
 
 // Returns a number by its name, unless that is the one of all that have none.
 fn named(number: u32, name: &'static str, unknown: &'static str) -> Value<'static> {
@@ -65,8 +38,14 @@ pub fn text_or_dash(text: Option<&str>) -> &str {
     if text.is_empty() { "-" } else { text }
 }
 
-// Returns the fields of a segment and its number.
-fn segment_fields<'a>(number: usize, segment: &'a Segment<'_>) -> [Field<'a>; 17] {
+/// Returns the fields of a segment and its number.
+///
+/// <details><summary>Proved</summary>
+///
+/// - `map field_view result ≡ segment_part_fields (number, segment_view segment)`
+///
+/// </details>
+pub fn segment_fields<'a>(number: usize, segment: &'a Segment<'_>) -> [Field<'a>; 17] {
     let name = name_in_field(&segment.segname);
     let (most, flags) = (segment.maxprot, segment.flags);
     let is_writable_code = most & 2 != 0 && most & 4 != 0;
@@ -127,8 +106,14 @@ pub fn section_type(number: u32) -> &'static str {
     }
 }
 
-// Returns the fields of a section, but for its stubs.
-fn section_fields<'a>(row: &'a SectionRow) -> [Field<'a>; 18] {
+/// Returns the fields of a section, but for its stubs.
+///
+/// <details><summary>Proved</summary>
+///
+/// - `map field_view result ≡ section_members row`
+///
+/// </details>
+pub fn section_fields<'a>(row: &'a SectionRow) -> [Field<'a>; 18] {
     let section = &row.section.section;
     let (segname, sectname) = (
         name_in_field(&section.segname),
@@ -168,8 +153,14 @@ fn stubs_in(section: &Section64) -> u64 {
     }
 }
 
-// Returns the fields of a section's stubs: their number and their size.
-fn stub_fields(section: &Section64) -> [Field<'static>; 5] {
+/// Returns the fields of a section's stubs: their number and their size.
+///
+/// <details><summary>Proved</summary>
+///
+/// - `map field_view result ≡ stub_fields section`
+///
+/// </details>
+pub fn stub_fields(section: &Section64) -> [Field<'static>; 5] {
     let stubs = stubs_in(section);
     let column = column_if(stubs != 0, 8);
     [
@@ -181,8 +172,14 @@ fn stub_fields(section: &Section64) -> [Field<'static>; 5] {
     ]
 }
 
-// Returns the fields of a UUID, with the cpu.
-fn uuid_fields(row: &UuidRow) -> [Field<'static>; 5] {
+/// Returns the fields of a UUID, with the cpu.
+///
+/// <details><summary>Proved</summary>
+///
+/// - `map field_view result ≡ uuid_part_fields row`
+///
+/// </details>
+pub fn uuid_fields(row: &UuidRow) -> [Field<'static>; 5] {
     let cpu = cpu_name(row.cputype, row.cpusubtype % 0x100_0000);
     [
         Field::new("uuid", Value::Uuid(row.uuid), 2),
@@ -193,8 +190,14 @@ fn uuid_fields(row: &UuidRow) -> [Field<'static>; 5] {
     ]
 }
 
-// Returns the fields of a run path and its number.
-fn rpath_fields<'a>(number: usize, path: &'a str) -> [Field<'a>; 2] {
+/// Returns the fields of a run path and its number.
+///
+/// <details><summary>Proved</summary>
+///
+/// - `map field_view result ≡ rpath_part_fields (number, path)`
+///
+/// </details>
+pub fn rpath_fields<'a>(number: usize, path: &'a str) -> [Field<'a>; 2] {
     [
         Field::new("number", Value::Number(number as u64), 1).wide(3),
         Field::new("path", Value::Text(path), 2),
@@ -248,8 +251,14 @@ fn above_field(symbol: Option<EntrySymbol<'_>>) -> Field<'static> {
     }
 }
 
-// Returns the fields of an entry point.
-fn entry_fields<'b>(row: &'b EntryRow<'_>) -> [Field<'b>; 6] {
+/// Returns the fields of an entry point.
+///
+/// <details><summary>Proved</summary>
+///
+/// - `map field_view result ≡ entry_part_fields (entry_view row)`
+///
+/// </details>
+pub fn entry_fields<'b>(row: &'b EntryRow<'_>) -> [Field<'b>; 6] {
     let segment = segment_of_found(&row.section);
     let name = name_of_found(&row.section);
     [
@@ -262,8 +271,14 @@ fn entry_fields<'b>(row: &'b EntryRow<'_>) -> [Field<'b>; 6] {
     ]
 }
 
-// Returns the fields of a header but for the words of its flags.
-fn header_members(header: &Header) -> [Field<'static>; 11] {
+/// Returns the fields of a header but for the words of its flags.
+///
+/// <details><summary>Proved</summary>
+///
+/// - `map field_view result ≡ header_members header`
+///
+/// </details>
+pub fn header_members(header: &Header) -> [Field<'static>; 11] {
     let (cputype, cpusubtype) = (header.cputype, header.cpusubtype);
     let (kind, capabilities) = (cpusubtype % 0x100_0000, cpusubtype / 0x100_0000);
     let words = image_kind(header.filetype);
@@ -291,8 +306,14 @@ fn header_flag(flags: u32, flag: u32) -> Field<'static> {
     Field::of_line(word, column_if(flags & flag != 0, 3))
 }
 
-// Returns the words of the flags that have names.
-fn header_flags(flags: u32) -> [Field<'static>; 26] {
+/// Returns the words of the flags that have names.
+///
+/// <details><summary>Proved</summary>
+///
+/// - `map field_view result ≡ header_flags flags`
+///
+/// </details>
+pub fn header_flags(flags: u32) -> [Field<'static>; 26] {
     [
         header_flag(flags, MH_NOUNDEFS),
         header_flag(flags, MH_INCRLINK),

@@ -3,73 +3,62 @@
 #![forbid(unsafe_code)]
 
 use crate::generated::mach_cli::{Field, FieldsForm, Line, RecordFields};
-use crate::generated::machinfo::list_lines::print_in_form;
-use crate::generated::machinfo::word::{Part, Word};
+use crate::generated::machinfo::list::use_list;
+use crate::generated::machinfo::list_lines::Lines;
+use crate::generated::machinfo::word::Word;
 use crate::shim::io;
 use crate::shim::io::Write;
 use goblin_mach::MachO;
 
-// The line of an entry point.
+// A word before a line.
+trait Label {
+    // Returns the word.
+    /// <details><summary>Proved</summary>
+    ///
+    /// - `result ≡ word`
+    ///
+    /// </details>
+    fn word() -> &'static str;
+}
+
 #[derive(Clone, Copy)]
-struct EntryLine;
+struct Entry;
 
-impl FieldsForm for EntryLine {
-    fn write_both<O: Write>(
-        fields: &[Field<'_>],
-        others: &[Field<'_>],
-        out: &mut O,
-    ) -> io::Result<()> {
-        write!(out, "entry: ")?;
-        Line::write_both(fields, others, out)
-    }
-
-    fn write_record<O: Write>(
-        first: &Field<'_>,
-        fields: &[Field<'_>],
-        shown: RecordFields<'_>,
-        out: &mut O,
-    ) -> io::Result<()> {
-        write!(out, "entry: ")?;
-        Line::write_record(first, fields, shown, out)
+impl Label for Entry {
+    fn word() -> &'static str {
+        "entry: "
     }
 }
 
-// The line of a segment.
 #[derive(Clone, Copy)]
-struct SegmentLine;
+struct Segment;
 
-impl FieldsForm for SegmentLine {
-    fn write_both<O: Write>(
-        fields: &[Field<'_>],
-        others: &[Field<'_>],
-        out: &mut O,
-    ) -> io::Result<()> {
-        write!(out, "segment: ")?;
-        Line::write_both(fields, others, out)
-    }
-
-    fn write_record<O: Write>(
-        first: &Field<'_>,
-        fields: &[Field<'_>],
-        shown: RecordFields<'_>,
-        out: &mut O,
-    ) -> io::Result<()> {
-        write!(out, "segment: ")?;
-        Line::write_record(first, fields, shown, out)
+impl Label for Segment {
+    fn word() -> &'static str {
+        "segment: "
     }
 }
 
-// The line of a section.
 #[derive(Clone, Copy)]
-struct SectionLine;
+struct Section;
 
-impl FieldsForm for SectionLine {
+impl Label for Section {
+    fn word() -> &'static str {
+        "section: "
+    }
+}
+
+// A line after a word.
+#[derive(Clone, Copy)]
+struct After<L>(L);
+
+impl<L: Label> FieldsForm for After<L> {
     fn write_both<O: Write>(
         fields: &[Field<'_>],
         others: &[Field<'_>],
         out: &mut O,
     ) -> io::Result<()> {
-        write!(out, "section: ")?;
+        out.write_all(L::word().as_bytes())?;
         Line::write_both(fields, others, out)
     }
 
@@ -79,7 +68,7 @@ impl FieldsForm for SectionLine {
         shown: RecordFields<'_>,
         out: &mut O,
     ) -> io::Result<()> {
-        write!(out, "section: ")?;
+        out.write_all(L::word().as_bytes())?;
         Line::write_record(first, fields, shown, out)
     }
 }
@@ -93,13 +82,29 @@ impl FieldsForm for SectionLine {
 ///
 /// </details>
 pub fn print_parts<O: Write>(image: &MachO<'_>, limit: usize, out: &mut O) -> io::Result<bool> {
-    let word = Word::Part(Part::Entry);
-    let entry = print_in_form(word, EntryLine, "entry: refused", image, 1, 1, out)?;
-    let word = Word::Part(Part::Segments);
-    let refused = "segment: refused";
-    let segments = print_in_form(word, SegmentLine, refused, image, limit, limit, out)?;
-    let word = Word::Part(Part::Sections);
-    let refused = "section: refused";
-    let sections = print_in_form(word, SectionLine, refused, image, limit, limit, out)?;
+    let (form, refused) = (After(Entry), "entry: refused");
+    let entry = Lines {
+        form,
+        refused,
+        limit: 1,
+        left: 1,
+    };
+    let entry = use_list(&entry, Word::Entry, image, out)?;
+    let (form, refused, left) = (After(Segment), "segment: refused", limit);
+    let segments = Lines {
+        form,
+        refused,
+        limit,
+        left,
+    };
+    let segments = use_list(&segments, Word::Segments, image, out)?;
+    let (form, refused) = (After(Section), "section: refused");
+    let sections = Lines {
+        form,
+        refused,
+        limit,
+        left,
+    };
+    let sections = use_list(&sections, Word::Sections, image, out)?;
     Ok(entry.whole & segments.whole & sections.whole)
 }

@@ -2,30 +2,17 @@
 //! The parts of an image that are lists of rows.
 #![forbid(unsafe_code)]
 
-use crate::generated::machinfo::sections::{CountedSections, SectionRow, sections_past};
-use crate::generated::machinfo::word::Part;
+use crate::generated::mach_cli::{FieldsForm, ItemList};
+use crate::generated::machinfo::part_fields::{
+    entry_fields, header_flags, header_members, rpath_fields, segment_fields, uuid_fields,
+};
+use crate::shim::io;
+use crate::shim::io::Write;
 use goblin_mach::audit::uuid_by;
 use goblin_mach::header::Header;
 use goblin_mach::load_command::LoadCommand;
 use goblin_mach::segment::{NumberedSection, Segment};
 use goblin_mach::{MachO, Result};
-
-/// A row of a part of an image.
-#[derive(Clone, Copy)]
-pub enum PartRow<'a, 'b> {
-    /// A segment, and its number.
-    Segment(usize, &'b Segment<'a>),
-    /// A section.
-    Section(SectionRow),
-    /// A UUID.
-    Uuid(UuidRow),
-    /// A run path, and its number.
-    Rpath(usize, &'a str),
-    /// Where the image begins to run.
-    Entry(EntryRow<'a>),
-    /// The header.
-    Header(Header),
-}
 
 /// A UUID, and the cpu of the image.
 #[derive(Clone, Copy)]
@@ -68,20 +55,36 @@ pub struct NumberedSegments<'a, 'b> {
 }
 
 impl<'a, 'b> NumberedSegments<'a, 'b> {
-    // Returns the segments of an image.
-    fn of(image: &'b MachO<'a>) -> Self {
+    /// Returns the segments of an image.
+    ///
+    /// <details><summary>Proved</summary>
+    ///
+    /// - `segments_numbered_left result ≡ segment_rows_from 0 (segments_view image)`
+    ///
+    /// </details>
+    pub fn of(image: &'b MachO<'a>) -> Self {
         NumberedSegments {
             segments: image.segments.as_slice(),
             number: 0,
         }
     }
+}
 
-    // Returns the row of the next segment.
-    fn take_next(&mut self) -> Option<Result<PartRow<'a, 'b>>> {
+impl<'a, 'b> ItemList for NumberedSegments<'a, 'b> {
+    type Item = (usize, &'b Segment<'a>);
+
+    fn next_item(&mut self) -> Option<Result<(usize, &'b Segment<'a>)>> {
         let number = self.number;
         let segment = self.segments.get(number)?;
         self.number = number + 1;
-        Some(Ok(PartRow::Segment(number, segment)))
+        Some(Ok((number, segment)))
+    }
+
+    fn write_item<F: FieldsForm, O: Write>(
+        segment: &(usize, &'b Segment<'a>),
+        out: &mut O,
+    ) -> io::Result<()> {
+        F::write(&segment_fields(segment.0, segment.1), out)
     }
 }
 
@@ -97,8 +100,14 @@ pub struct UuidRows<'b> {
 }
 
 impl<'b> UuidRows<'b> {
-    // Returns the UUIDs of an image.
-    fn of(image: &'b MachO<'_>) -> Self {
+    /// Returns the UUIDs of an image.
+    ///
+    /// <details><summary>Proved</summary>
+    ///
+    /// - `uuid_rows_left result ≡ filter_map (uuid_row_by image.header) (commands_view image)`
+    ///
+    /// </details>
+    pub fn of(image: &'b MachO<'_>) -> Self {
         UuidRows {
             commands: image.load_commands.as_slice(),
             number: 0,
@@ -122,6 +131,18 @@ impl<'b> UuidRows<'b> {
     }
 }
 
+impl<'b> ItemList for UuidRows<'b> {
+    type Item = UuidRow;
+
+    fn next_item(&mut self) -> Option<Result<UuidRow>> {
+        Some(Ok(self.take_next()?))
+    }
+
+    fn write_item<F: FieldsForm, O: Write>(row: &UuidRow, out: &mut O) -> io::Result<()> {
+        F::write(&uuid_fields(row), out)
+    }
+}
+
 /// The run paths from a number on.
 #[derive(Clone, Copy)]
 pub struct NumberedPaths<'a, 'b> {
@@ -132,20 +153,33 @@ pub struct NumberedPaths<'a, 'b> {
 }
 
 impl<'a, 'b> NumberedPaths<'a, 'b> {
-    // Returns the run paths of an image.
-    fn of(image: &'b MachO<'a>) -> Self {
+    /// Returns the run paths of an image.
+    ///
+    /// <details><summary>Proved</summary>
+    ///
+    /// - `paths_numbered_left result ≡ rpath_rows_from 0 (texts image.rpaths.items)`
+    ///
+    /// </details>
+    pub fn of(image: &'b MachO<'a>) -> Self {
         NumberedPaths {
             paths: image.rpaths.as_slice(),
             number: 0,
         }
     }
+}
 
-    // Returns the row of the next path.
-    fn take_next(&mut self) -> Option<Result<PartRow<'a, 'b>>> {
+impl<'a, 'b> ItemList for NumberedPaths<'a, 'b> {
+    type Item = (usize, &'a str);
+
+    fn next_item(&mut self) -> Option<Result<(usize, &'a str)>> {
         let number = self.number;
         let path = *self.paths.get(number)?;
         self.number = number + 1;
-        Some(Ok(PartRow::Rpath(number, path)))
+        Some(Ok((number, path)))
+    }
+
+    fn write_item<F: FieldsForm, O: Write>(path: &(usize, &'a str), out: &mut O) -> io::Result<()> {
+        F::write(&rpath_fields(path.0, path.1), out)
     }
 }
 
@@ -160,114 +194,59 @@ fn symbol_at<'a>(image: &MachO<'a>, address: u64) -> Option<EntrySymbol<'a>> {
     }
 }
 
-// Returns where an image begins to run, if that is known.
-fn entry_row<'a>(image: &MachO<'a>) -> Option<EntryRow<'a>> {
-    let address = image.entry;
-    if address == 0 {
-        return None;
-    }
-    Some(EntryRow {
-        address,
-        section: image.section_at(address),
-        symbol: symbol_at(image, address),
-    })
-}
+/// Where an image begins to run, if that is known and was not taken.
+#[derive(Clone, Copy)]
+pub struct EntryPoint<'a>(pub Option<EntryRow<'a>>);
 
-// Returns it as a row.
-fn entry_part<'a, 'b>(image: &'b MachO<'a>) -> Option<PartRow<'a, 'b>> {
-    match entry_row(image) {
-        Some(row) => Some(PartRow::Entry(row)),
-        None => None,
-    }
-}
-
-// Returns the row of the header.
-fn header_row<'a, 'b>(image: &'b MachO<'a>) -> Option<PartRow<'a, 'b>> {
-    Some(PartRow::Header(image.header))
-}
-
-/// What is left of the rows of a part of an image.
-pub enum PartList<'a, 'b> {
-    Segments(NumberedSegments<'a, 'b>),
-    Sections(CountedSections<'a, 'b>, usize),
-    Uuids(UuidRows<'b>),
-    Rpaths(NumberedPaths<'a, 'b>),
-    One(Option<PartRow<'a, 'b>>),
-}
-
-impl<'a, 'b> PartList<'a, 'b> {
-    /// Returns the rows of a part of an image.
+impl<'a> EntryPoint<'a> {
+    /// Returns where an image begins to run.
     ///
     /// <details><summary>Proved</summary>
     ///
-    /// - *rows*: `ArePartRows part image.entry (facts_view image) (part_rows_left result)`
-    /// - *past*: `part_rows_past result ≡ past_of_part part (facts_view image)`
-    /// - *name*: `part_name_of result ≡ part_past_name part`
+    /// - `IsEntryRow image.entry (facts_view image) (option_map entry_view result.0)`
     ///
     /// </details>
-    pub fn of(part: Part, image: &'b MachO<'a>) -> Self {
-        match part {
-            Part::Segments => PartList::Segments(NumberedSegments::of(image)),
-            Part::Sections => PartList::Sections(
-                CountedSections::of(image),
-                sections_past(image.segments.as_slice()),
-            ),
-            Part::Uuid => PartList::Uuids(UuidRows::of(image)),
-            Part::Rpaths => PartList::Rpaths(NumberedPaths::of(image)),
-            Part::Entry => PartList::One(entry_part(image)),
-            Part::Header => PartList::One(header_row(image)),
+    pub fn of(image: &MachO<'a>) -> Self {
+        let address = image.entry;
+        if address == 0 {
+            return EntryPoint(None);
         }
+        EntryPoint(Some(EntryRow {
+            address,
+            section: image.section_at(address),
+            symbol: symbol_at(image, address),
+        }))
+    }
+}
+
+impl<'a> ItemList for EntryPoint<'a> {
+    type Item = EntryRow<'a>;
+
+    fn next_item(&mut self) -> Option<Result<EntryRow<'a>>> {
+        let row = self.0?;
+        self.0 = None;
+        Some(Ok(row))
     }
 
-    /// Returns the next row, or the error if it can't be read.
-    ///
-    /// <details><summary>Proved</summary>
-    ///
-    /// - `YieldsFirstBy part_row_read part_rows_left self.old result self.new`
-    ///
-    /// </details>
-    pub fn take_next(&mut self) -> Option<Result<PartRow<'a, 'b>>> {
-        match self {
-            PartList::Segments(list) => list.take_next(),
-            PartList::Sections(list, _) => match list.take_next()? {
-                Ok(section) => Some(Ok(PartRow::Section(section))),
-                Err(error) => Some(Err(error)),
-            },
-            PartList::Uuids(list) => Some(Ok(PartRow::Uuid(list.take_next()?))),
-            PartList::Rpaths(list) => list.take_next(),
-            PartList::One(row) => {
-                let taken = (*row)?;
-                *row = None;
-                Some(Ok(taken))
-            }
-        }
+    fn write_item<F: FieldsForm, O: Write>(row: &EntryRow<'a>, out: &mut O) -> io::Result<()> {
+        F::write(&entry_fields(row), out)
+    }
+}
+
+/// The header of an image, if it was not taken.
+#[derive(Clone, Copy)]
+pub struct OneHeader(pub Option<Header>);
+
+impl ItemList for OneHeader {
+    type Item = Header;
+
+    fn next_item(&mut self) -> Option<Result<Header>> {
+        let header = self.0?;
+        self.0 = None;
+        Some(Ok(header))
     }
 
-    /// Returns how many more rows are claimed past the end of the bytes.
-    ///
-    /// <details><summary>Proved</summary>
-    ///
-    /// - `result ≡ part_rows_past self`
-    ///
-    /// </details>
-    pub fn past(&self) -> usize {
-        match self {
-            PartList::Sections(_, past) => *past,
-            _ => 0,
-        }
-    }
-
-    /// Returns the name of such rows.
-    ///
-    /// <details><summary>Proved</summary>
-    ///
-    /// - `result ≡ part_name_of self`
-    ///
-    /// </details>
-    pub fn past_name(&self) -> &'static str {
-        match self {
-            PartList::Sections(..) => "sections",
-            _ => "",
-        }
+    fn write_item<F: FieldsForm, O: Write>(header: &Header, out: &mut O) -> io::Result<()> {
+        F::write_both(&header_members(header), &header_flags(header.flags), out)
     }
 }

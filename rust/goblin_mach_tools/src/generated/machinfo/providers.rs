@@ -2,6 +2,7 @@
 //! The providers of an image's undefined symbols.
 #![forbid(unsafe_code)]
 
+use crate::generated::mach_cli::PastTheEnd;
 use goblin_mach::symbols::SymbolIterator;
 use goblin_mach::{MachO, Provider, Result};
 
@@ -16,33 +17,30 @@ pub struct Provided<'a> {
 pub struct ProvidedSymbols<'a, 'b> {
     pub image: &'b MachO<'a>,
     pub symbols: SymbolIterator<'a>,
-    /// How many more symbols the table claims.
-    pub past: usize,
 }
 
 impl<'a, 'b> ProvidedSymbols<'a, 'b> {
-    /// Returns the symbols of an image that have a provider.
+    /// Returns the symbols of an image that have a provider, and how many more symbols its table claims past the end of the bytes.
     ///
     /// <details><summary>Proved</summary>
     ///
-    /// - *left*: `provided_left result ≡ provided_in image.header.flags (texts image.libs.items) (symbol_table_view image)`
-    /// - *past*: `result.past ≡ symbols_past_in (symbol_table_view image)`
+    /// - *left*: `provided_left result.0 ≡ provided_in image.header.flags (texts image.libs.items) (symbol_table_view image)`
+    /// - *past*: `result.1.count ≡ symbols_past_in (symbol_table_view image)`
+    /// - *name*: `result.1.name ≡ past_name Providers`
     ///
     /// </details>
-    pub fn of(image: &'b MachO<'a>) -> Self {
+    pub fn of(image: &'b MachO<'a>) -> (Self, PastTheEnd) {
+        let name = "symbols";
         let Some(table) = &image.symbols else {
-            return ProvidedSymbols {
-                image,
-                symbols: SymbolIterator::default(),
-                past: 0,
-            };
+            let symbols = SymbolIterator::default();
+            let past = PastTheEnd { count: 0, name };
+            return (ProvidedSymbols { image, symbols }, past);
         };
         let in_bounds = table.in_bounds();
-        ProvidedSymbols {
-            image,
-            symbols: in_bounds.iter(),
-            past: table.len() - in_bounds.len(),
-        }
+        let count = table.len() - in_bounds.len();
+        let symbols = in_bounds.iter();
+        let past = PastTheEnd { count, name };
+        (ProvidedSymbols { image, symbols }, past)
     }
 
     /// Returns the next symbol with its provider, or the error if either can't be read.

@@ -2,7 +2,11 @@
 //! The sections of all segments of an image, as rows.
 #![forbid(unsafe_code)]
 
+use crate::generated::mach_cli::{FieldsForm, ItemList, PastTheEnd};
+use crate::generated::machinfo::part_fields::{section_fields, stub_fields};
 use crate::generated::machinfo::segments::SectionList;
+use crate::shim::io;
+use crate::shim::io::Write;
 use goblin_mach::segment::{NumberedSection, Segment};
 use goblin_mach::{MachO, Result};
 
@@ -34,14 +38,8 @@ fn begun(segment: &Segment<'_>) -> u32 {
     (segment.nsects as usize).min(in_bounds) as u32
 }
 
-/// Returns how many sections some segments claim past the end of the bytes, at most the last number of 64 bits.
-///
-/// <details><summary>Proved</summary>
-///
-/// - `result ≡ sections_past (map segment_view segments)`
-///
-/// </details>
-pub fn sections_past(segments: &[Segment<'_>]) -> usize {
+// Returns how many sections some segments claim past the end of the bytes, at most the last number of 64 bits.
+fn sections_past(segments: &[Segment<'_>]) -> usize {
     let mut past = 0usize;
     for segment in segments {
         past = past.saturating_add(SectionList::of(segment).past);
@@ -57,20 +55,26 @@ fn row_at(segment: &Segment<'_>, n: usize, taken: u32, before: u64) -> Result<Se
 }
 
 impl<'a, 'b> CountedSections<'a, 'b> {
-    /// Returns the sections of an image.
+    /// Returns the sections of an image, and how many more its segments claim past the end of the bytes.
     ///
     /// <details><summary>Proved</summary>
     ///
-    /// - `sections_counted_left result ≡ section_rows_in 0 0 (segments_view image)`
+    /// - *left*: `sections_counted_left result.0 ≡ section_rows_in 0 0 (segments_view image)`
+    /// - *past*: `result.1.count ≡ sections_past (segments_view image)`
+    /// - *name*: `result.1.name ≡ past_name Sections`
     ///
     /// </details>
-    pub fn of(image: &'b MachO<'a>) -> Self {
-        CountedSections {
-            segments: image.segments.as_slice(),
+    pub fn of(image: &'b MachO<'a>) -> (Self, PastTheEnd) {
+        let segments = image.segments.as_slice();
+        let count = sections_past(segments);
+        let sections = CountedSections {
+            segments,
             segment: 0,
             taken: 0,
             before: 0,
-        }
+        };
+        let name = "sections";
+        (sections, PastTheEnd { count, name })
     }
 
     /// Returns the next section, or the error if it can't be read.
@@ -95,5 +99,18 @@ impl<'a, 'b> CountedSections<'a, 'b> {
             self.segment += 1;
             self.taken = 0;
         }
+    }
+}
+
+impl<'a, 'b> ItemList for CountedSections<'a, 'b> {
+    type Item = SectionRow;
+
+    fn next_item(&mut self) -> Option<Result<SectionRow>> {
+        self.take_next()
+    }
+
+    fn write_item<F: FieldsForm, O: Write>(row: &SectionRow, out: &mut O) -> io::Result<()> {
+        let stubs = stub_fields(&row.section.section);
+        F::write_both(&section_fields(row), &stubs, out)
     }
 }

@@ -3,17 +3,18 @@
 #![forbid(unsafe_code)]
 
 use crate::generated::mach_cli::{
-    AddressLinesOf, ImageView, InForm, Line, Outcome, Pairs, ShowFailure, print_cut, print_listing,
+    AddressLinesOf, ImageView, Line, Outcome, Pairs, PastTheEnd, ShowFailure, print_cut,
 };
 use crate::generated::machinfo::counts::{COUNTED, Form, print_counts};
 use crate::generated::machinfo::export_rows::{ExportForm, print_exports_of, walk_of};
 use crate::generated::machinfo::imports::ImportList;
-use crate::generated::machinfo::list_lines::print_in_form;
+use crate::generated::machinfo::list::{ListUse, use_list};
+use crate::generated::machinfo::list_lines::Lines;
 use crate::generated::machinfo::part_lines::print_parts;
 use crate::generated::machinfo::signed::print_signed;
 use crate::generated::machinfo::state::print_state;
 use crate::generated::machinfo::summary::{print_front, print_used};
-use crate::generated::machinfo::word::{Choice, Part, Word};
+use crate::generated::machinfo::word::{Choice, Word};
 use crate::shim::io;
 use crate::shim::io::Write;
 use goblin_mach::audit::state_of;
@@ -60,10 +61,33 @@ fn print_list<O: Write>(
     left: usize,
     out: &mut O,
 ) -> io::Result<Outcome> {
+    let refused = "refused";
     if has_names(word) {
-        print_in_form(word, Pairs, "refused", image, limit, left, out)
+        let form = Pairs;
+        use_list(
+            &Lines {
+                form,
+                refused,
+                limit,
+                left,
+            },
+            word,
+            image,
+            out,
+        )
     } else {
-        print_in_form(word, Line, "refused", image, limit, left, out)
+        let form = Line;
+        use_list(
+            &Lines {
+                form,
+                refused,
+                limit,
+                left,
+            },
+            word,
+            image,
+            out,
+        )
     }
 }
 
@@ -95,14 +119,20 @@ fn print_imports<O: Write>(
         parts: &parts,
         bindings: image.bindings(),
     };
-    let mut lines = InForm { list, form: Line };
-    Ok(print_listing(&mut lines, "refused", limit, left, out)?)
+    let (form, refused) = (Line, "refused");
+    let lines = Lines {
+        form,
+        refused,
+        limit,
+        left,
+    };
+    Ok(lines.of_list(list, PastTheEnd::NONE, out)?)
 }
 
 // Whether the lines of a word's list have the names of fields.
 fn has_names(word: Word) -> bool {
     match word {
-        Word::Commands | Word::CommandsAlone | Word::Part(Part::Header) => true,
+        Word::Commands | Word::CommandsAlone | Word::Header => true,
         _ => false,
     }
 }

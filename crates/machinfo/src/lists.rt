@@ -1,57 +1,44 @@
-//! What the rows of lists show, field by field: as lines, and as objects of JSON.
+//! The lists of an image, and what their rows show, field by field: as lines, and as objects of JSON.
 
-ghost use Rattle.std.specs.Prelude.{◌≡◌, map, OnOk};
+ghost use Rattle.std.specs.Prelude.{◌≡◌, Ok, map, OnOk};
 ghost use Rattle.std.specs.Io.KnownBytes.{Appends};
+ghost use Rattle.mach_load.specs.TablesLeft.{starts_left, data_in_code_left, options_left, build_tools_left};
 ghost use Rattle.mach_parts.specs.Bindings.{binding_view, provider_view};
-ghost use Rattle.mach_parts.specs.SlotViews.{slot_view};
-ghost use Rattle.goblin_mach.specs.Libraries.{library_view};
+ghost use Rattle.mach_parts.specs.SlotViews.{indirect_left, slot_view};
+ghost use Rattle.mach_parts.specs.SlotsLeft.{slots_left};
+ghost use Rattle.goblin_mach.specs.Libraries.{libraries_left, library_view};
+ghost use Rattle.goblin_mach.specs.RebasesLeft.{rebases_left};
 ghost use Rattle.mach_dyld.specs.RebasesLeft.{rebase_view};
+ghost use Rattle.mach_dyld.specs.WeakBindsLeft.{weak_bind_view, weak_binds_left};
+ghost use Rattle.mach_audit.specs.Security.{findings_left};
 ghost use Rattle.mach_cli.specs.Fields.{field_view};
-ghost use Rattle.machinfo.specs.NumberedNotes.{numbered_note_view};
-ghost use Rattle.machinfo.specs.ProvidedSymbols.{provided_view};
+ghost use Rattle.machinfo.specs.NumberedNotes.{numbered_note_view, notes_numbered_left};
+ghost use Rattle.machinfo.specs.ProvidedSymbols.{provided_left, provided_view};
 ghost use Rattle.machinfo.specs.PartFields.{column_if, flag_field};
-ghost use Rattle.machinfo.specs.RowFields.{binding_fields, data_fields, fields_shown, finding_fields, indirect_fields};
+ghost use Rattle.machinfo.specs.RowFields.{binding_fields, data_fields, fields_read, finding_fields, indirect_fields};
 ghost use Rattle.machinfo.specs.RowFields.{is_lazy_kind, is_plain, library_fields, note_fields, option_fields, provided_fields, rebase_row_fields};
-ghost use Rattle.machinfo.specs.RowFields.{slot_fields, slot_kind_text, strong_row_fields, tool_fields};
+ghost use Rattle.machinfo.specs.RowFields.{slot_fields, slot_kind_text, start_fields, strong_row_fields, tool_fields, weak_row_fields};
 
-use crate::command_row_fields::write_command_row;
-use crate::notes::NumberedNote;
-use crate::part_fields::write_part;
-use crate::providers::Provided;
-use crate::row::Row;
+use crate::notes::{NumberedNote, NumberedNotes};
+use crate::providers::{Provided, ProvidedSymbols};
 use crate::text::tool_word;
 use goblin_mach::load_command::{BuildToolVersion, DataInCodeEntry};
-use goblin_mach::slots::{IndirectSymbol, SlotKind, SlotSymbol, SymbolSlot};
-use goblin_mach::{Binding, Library, LibraryAttributes, LibraryKind, Provider, Rebase, WeakBind};
-use mach_audit::Finding;
-use mach_cli::{
-    Field, FieldsForm, Value, diverse_by, diversity_by, has_auth, if_not_empty, key_by, rebase_type,
+use goblin_mach::slots::{
+    IndirectSymbol, IndirectSymbolIterator, SlotIterator, SlotKind, SlotSymbol, SymbolSlot,
 };
+use goblin_mach::{
+    Binding, BuildToolIterator, DataInCodeIterator, FunctionStartIterator, Library,
+    LibraryAttributes, LibraryIterator, LibraryKind, LinkerOptionIterator, Provider, Rebase,
+    RebaseIterator, Result, WeakBind, WeakBindIterator,
+};
+use mach_audit::{Finding, Findings};
+use mach_cli::{
+    Field, FieldsForm, ItemList, Value, diverse_by, diversity_by, has_auth, if_not_empty, key_by,
+    rebase_type,
+};
+use std::alloc::Allocator;
 use std::io;
 use std::io::Write;
-
-/// Writes the fields of a row in a form.
-pub fn write_fields<F: FieldsForm, O: Write>(row: &Row<'_, '_>, out: &mut O) -> io::Result<()>
-    ensures { OnOk result (Appends (O.contents out.old) (O.contents out.new) (F.fields_text (fields_shown row.now))) }
-{
-    match *row {
-        Row::Command(row) => write_command_row::<F, O>(&row, out),
-        Row::Start(address) => F::write(&[Field::new("address", Value::Hex(address), 1)], out),
-        Row::Slot(slot) => write_slot::<F, O>(slot, out),
-        Row::Indirect(entry) => write_indirect::<F, O>(entry, out),
-        Row::Data(entry) => F::write(&data_fields(entry), out),
-        Row::LinkerOption(number, text) => F::write(&option_fields(number, text), out),
-        Row::Tool(number, tool) => F::write(&tool_fields(number, tool), out),
-        Row::Note(note) => F::write(&note_fields(note), out),
-        Row::Provided(provided) => write_provided::<F, O>(provided, out),
-        Row::Library(library) => write_library::<F, O>(library, out),
-        Row::Rebase(rebase) => F::write(&rebase_fields(rebase), out),
-        Row::Weak(WeakBind::Strong { name }) => F::write(&strong_fields(name), out),
-        Row::Weak(WeakBind::Bind(binding)) => F::write(&binding_fields(binding), out),
-        Row::Part(part) => write_part::<F, O>(&part, out),
-        Row::Verdict(finding) => F::write(&finding_fields(finding), out),
-    }
-}
 
 /// Returns the column of a field that a line has only if something is so.
 pub fn column_if(is_so: bool, column: usize) -> usize
@@ -77,6 +64,48 @@ pub fn flag_field(
     Field::new(name, value, column_if(is_so, column))
 }
 
+/// The addresses of functions.
+#[derive(Drop)]
+pub struct FunctionStarts<'a>(pub FunctionStartIterator<'a>);
+
+impl<'a> ItemList for FunctionStarts<'a> {
+    type Item = u64;
+
+    ghost fields = { start_fields };
+
+    ghost items_left = { λ s. fields_read start_fields (starts_left s.0) };
+
+    #[tactic(auto, using(crate::proofs::Lists::next_fields))]
+    fn next_item(&mut self) -> Option<Result<u64>> {
+        self.0.next()
+    }
+
+    fn write_item<F: FieldsForm, O: Write>(address: &u64, out: &mut O) -> io::Result<()> {
+        F::write(&[Field::new("address", Value::Hex(*address), 1)], out)
+    }
+}
+
+/// Indirect symbols.
+#[derive(Drop)]
+pub struct IndirectSymbols<'a>(pub IndirectSymbolIterator<'a>);
+
+impl<'a> ItemList for IndirectSymbols<'a> {
+    type Item = IndirectSymbol;
+
+    ghost fields = { indirect_fields };
+
+    ghost items_left = { λ s. fields_read indirect_fields (indirect_left s.0) };
+
+    #[tactic(auto, using(crate::proofs::Lists::next_fields))]
+    fn next_item(&mut self) -> Option<Result<IndirectSymbol>> {
+        self.0.next()
+    }
+
+    fn write_item<F: FieldsForm, O: Write>(entry: &IndirectSymbol, out: &mut O) -> io::Result<()> {
+        write_indirect::<F, O>(*entry, out)
+    }
+}
+
 // Writes what an entry of the table of indirect symbols says.
 fn write_indirect<F: FieldsForm, O: Write>(entry: IndirectSymbol, out: &mut O) -> io::Result<()>
     ensures { OnOk result (Appends (O.contents out.old) (O.contents out.new) (F.fields_text (indirect_fields entry))) }
@@ -98,6 +127,27 @@ fn write_indirect<F: FieldsForm, O: Write>(entry: IndirectSymbol, out: &mut O) -
     }
 }
 
+/// Data in code.
+#[derive(Drop)]
+pub struct DataInCode<'a>(pub DataInCodeIterator<'a>);
+
+impl<'a> ItemList for DataInCode<'a> {
+    type Item = DataInCodeEntry;
+
+    ghost fields = { data_fields };
+
+    ghost items_left = { λ s. fields_read data_fields (data_in_code_left s.0) };
+
+    #[tactic(auto, using(crate::proofs::Lists::next_fields))]
+    fn next_item(&mut self) -> Option<Result<DataInCodeEntry>> {
+        self.0.next()
+    }
+
+    fn write_item<F: FieldsForm, O: Write>(entry: &DataInCodeEntry, out: &mut O) -> io::Result<()> {
+        F::write(&data_fields(*entry), out)
+    }
+}
+
 // Returns the fields of an entry of data in code: its offset from the image's first byte, its length and its kind.
 fn data_fields(entry: DataInCodeEntry) -> [Field<'static>; 3]
     ensures { map field_view result ≡ data_fields entry }
@@ -109,6 +159,27 @@ fn data_fields(entry: DataInCodeEntry) -> [Field<'static>; 3]
     ]
 }
 
+/// Linker options, each with the number of its command.
+#[derive(Drop)]
+pub struct LinkerOptions<'a, 'b>(pub LinkerOptionIterator<'a, 'b>);
+
+impl<'a, 'b> ItemList for LinkerOptions<'a, 'b> {
+    type Item = (usize, &'a str);
+
+    ghost fields = { λ item. option_fields (item.0, item.1.now) };
+
+    ghost items_left = { λ s. fields_read option_fields (options_left s.0) };
+
+    #[tactic(auto, using(crate::proofs::Lists::next_fields))]
+    fn next_item(&mut self) -> Option<Result<(usize, &'a str)>> {
+        self.0.next()
+    }
+
+    fn write_item<F: FieldsForm, O: Write>(option: &(usize, &'a str), out: &mut O) -> io::Result<()> {
+        F::write(&option_fields(option.0, option.1), out)
+    }
+}
+
 // Returns the fields of a linker option, with the number of its command.
 fn option_fields<'a>(number: usize, text: &'a str) -> [Field<'a>; 2]
     ensures { map field_view result ≡ option_fields (number, text.now) }
@@ -117,6 +188,27 @@ fn option_fields<'a>(number: usize, text: &'a str) -> [Field<'a>; 2]
         Field::new("command", Value::Number(number as u64), 1),
         Field::new("text", Value::Text(text), 2),
     ]
+}
+
+/// Build tools, each with the number of its command.
+#[derive(Drop)]
+pub struct BuildTools<'a, 'b>(pub BuildToolIterator<'a, 'b>);
+
+impl<'a, 'b> ItemList for BuildTools<'a, 'b> {
+    type Item = (usize, BuildToolVersion);
+
+    ghost fields = { tool_fields };
+
+    ghost items_left = { λ s. fields_read tool_fields (build_tools_left s.0) };
+
+    #[tactic(auto, using(crate::proofs::Lists::next_fields))]
+    fn next_item(&mut self) -> Option<Result<(usize, BuildToolVersion)>> {
+        self.0.next()
+    }
+
+    fn write_item<F: FieldsForm, O: Write>(tool: &(usize, BuildToolVersion), out: &mut O) -> io::Result<()> {
+        F::write(&tool_fields(tool.0, tool.1), out)
+    }
 }
 
 // Returns the fields of a tool and its version, with the number of its command.
@@ -135,6 +227,23 @@ fn tool_fields(number: usize, tool: BuildToolVersion) -> [Field<'static>; 4]
     ]
 }
 
+impl<'a, 'b> ItemList for NumberedNotes<'a, 'b> {
+    type Item = NumberedNote<'a>;
+
+    ghost fields = { λ item. note_fields (numbered_note_view item) };
+
+    ghost items_left = { λ s. fields_read note_fields (notes_numbered_left s) };
+
+    #[tactic(auto, using(crate::proofs::Lists::next_fields))]
+    fn next_item(&mut self) -> Option<Result<NumberedNote<'a>>> {
+        self.take_next()
+    }
+
+    fn write_item<F: FieldsForm, O: Write>(note: &NumberedNote<'a>, out: &mut O) -> io::Result<()> {
+        F::write(&note_fields(*note), out)
+    }
+}
+
 // Returns the fields of a note: the number of its command, its owner, the offset of its bytes, and their number.
 fn note_fields<'a>(note: NumberedNote<'a>) -> [Field<'a>; 4]
     ensures { map field_view result ≡ note_fields (numbered_note_view note.entry) }
@@ -146,6 +255,27 @@ fn note_fields<'a>(note: NumberedNote<'a>) -> [Field<'a>; 4]
         Field::new("owner", Value::OptionalText(owner), 2),
         Field::new("size", Value::Number(note.note.data.len() as u64), 4),
     ]
+}
+
+/// Stubs and symbol pointers.
+#[derive(Drop)]
+pub struct Slots<'a, 'b>(pub SlotIterator<'a, 'b>);
+
+impl<'a, 'b> ItemList for Slots<'a, 'b> {
+    type Item = SymbolSlot<'a>;
+
+    ghost fields = { λ item. slot_fields (slot_view item) };
+
+    ghost items_left = { λ s. fields_read slot_fields (slots_left s.0) };
+
+    #[tactic(auto, using(crate::proofs::Lists::next_fields))]
+    fn next_item(&mut self) -> Option<Result<SymbolSlot<'a>>> {
+        self.0.next()
+    }
+
+    fn write_item<F: FieldsForm, O: Write>(slot: &SymbolSlot<'a>, out: &mut O) -> io::Result<()> {
+        write_slot::<F, O>(*slot, out)
+    }
 }
 
 // Returns the words for a kind of slot.
@@ -183,6 +313,23 @@ fn write_slot<F: FieldsForm, O: Write>(slot: SymbolSlot<'_>, out: &mut O) -> io:
     F::write(&[address, kind, length, owner], out)
 }
 
+impl<'a, 'b, A: Allocator> ItemList for ProvidedSymbols<'a, 'b, A> {
+    type Item = Provided<'a>;
+
+    ghost fields = { λ item. provided_fields (provided_view item) };
+
+    ghost items_left = { λ s. fields_read provided_fields (provided_left s) };
+
+    #[tactic(auto, using(crate::proofs::Lists::next_fields))]
+    fn next_item(&mut self) -> Option<Result<Provided<'a>>> {
+        self.take_next()
+    }
+
+    fn write_item<F: FieldsForm, O: Write>(provided: &Provided<'a>, out: &mut O) -> io::Result<()> {
+        write_provided::<F, O>(*provided, out)
+    }
+}
+
 // Writes a symbol, and its provider.
 fn write_provided<F: FieldsForm, O: Write>(provided: Provided<'_>, out: &mut O) -> io::Result<()>
     ensures { OnOk result (Appends (O.contents out.old) (O.contents out.new) (F.fields_text (provided_fields (provided_view provided.entry)))) }
@@ -205,6 +352,26 @@ fn write_provided<F: FieldsForm, O: Write>(provided: Provided<'_>, out: &mut O) 
     };
     let provider = Field::new("provider", Value::Text(provider), 2);
     F::write(&[name, provider], out)
+}
+
+/// Libraries.
+#[derive(Drop)]
+pub struct Libraries<'a, 'b>(pub LibraryIterator<'a, 'b>);
+
+impl<'a, 'b> ItemList for Libraries<'a, 'b> {
+    type Item = Library<'a>;
+
+    ghost fields = { λ item. library_fields (library_view item) };
+
+    ghost items_left = { λ s. map (λ l. Ok (library_fields l)) (libraries_left s.0) };
+
+    fn next_item(&mut self) -> Option<Result<Library<'a>>> {
+        Some(Ok(self.0.next()?))
+    }
+
+    fn write_item<F: FieldsForm, O: Write>(library: &Library<'a>, out: &mut O) -> io::Result<()> {
+        write_library::<F, O>(*library, out)
+    }
 }
 
 // Whether a library is loaded at its first use.
@@ -256,6 +423,27 @@ pub fn write_library<F: FieldsForm, O: Write>(library: Library<'_>, out: &mut O)
     F::write(&library_fields(library), out)
 }
 
+/// Rebases.
+#[derive(Drop)]
+pub struct Rebases<'a, 'b>(pub RebaseIterator<'a, 'b>);
+
+impl<'a, 'b> ItemList for Rebases<'a, 'b> {
+    type Item = Rebase;
+
+    ghost fields = { λ item. rebase_row_fields (rebase_view item) };
+
+    ghost items_left = { λ s. fields_read rebase_row_fields (rebases_left s.0) };
+
+    #[tactic(auto, using(crate::proofs::Lists::next_fields))]
+    fn next_item(&mut self) -> Option<Result<Rebase>> {
+        self.0.next()
+    }
+
+    fn write_item<F: FieldsForm, O: Write>(rebase: &Rebase, out: &mut O) -> io::Result<()> {
+        F::write(&rebase_fields(*rebase), out)
+    }
+}
+
 // Returns the fields of a rebase: its address, its type, the target, and how the pointer is signed.
 fn rebase_fields(rebase: Rebase) -> [Field<'static>; 8]
     ensures { map field_view result ≡ rebase_row_fields (rebase_view rebase) }
@@ -277,6 +465,30 @@ fn rebase_fields(rebase: Rebase) -> [Field<'static>; 8]
         Field::new("type", Value::Text(rebase_type(rebase.kind)), 2),
         Field::of_line(signing, column_if(has_auth(auth), 4)),
     ]
+}
+
+/// Weak binds.
+#[derive(Drop)]
+pub struct WeakBinds<'a, 'b>(pub WeakBindIterator<'a, 'b>);
+
+impl<'a, 'b> ItemList for WeakBinds<'a, 'b> {
+    type Item = WeakBind<'a>;
+
+    ghost fields = { λ item. weak_row_fields (weak_bind_view item) };
+
+    ghost items_left = { λ s. fields_read weak_row_fields (weak_binds_left s.0) };
+
+    #[tactic(auto, using(crate::proofs::Lists::next_fields))]
+    fn next_item(&mut self) -> Option<Result<WeakBind<'a>>> {
+        self.0.next()
+    }
+
+    fn write_item<F: FieldsForm, O: Write>(bind: &WeakBind<'a>, out: &mut O) -> io::Result<()> {
+        match bind {
+            WeakBind::Strong { name } => F::write(&strong_fields(name), out),
+            WeakBind::Bind(binding) => F::write(&binding_fields(*binding), out),
+        }
+    }
 }
 
 // Returns the fields of an address and what is bound weakly there.
@@ -305,6 +517,27 @@ fn strong_fields<'a>(name: &'a str) -> [Field<'a>; 2]
         flag_field("is_strong", true, "strong", 1),
         Field::new("name", Value::Text(name), 2),
     ]
+}
+
+/// How an image is hardened.
+#[derive(Drop)]
+pub struct HardeningFindings<'a, 'b, A: Allocator>(pub Findings<'a, 'b, A>);
+
+impl<'a, 'b, A: Allocator> ItemList for HardeningFindings<'a, 'b, A> {
+    type Item = Finding;
+
+    ghost fields = { finding_fields };
+
+    ghost items_left = { λ s. fields_read finding_fields (findings_left s.0) };
+
+    #[tactic(auto, using(crate::proofs::Lists::next_fields))]
+    fn next_item(&mut self) -> Option<Result<Finding>> {
+        self.0.take_next()
+    }
+
+    fn write_item<F: FieldsForm, O: Write>(finding: &Finding, out: &mut O) -> io::Result<()> {
+        F::write(&finding_fields(*finding), out)
+    }
 }
 
 // Returns the fields of a finding: the name of the verdict, whether it holds, and what `yes` means.
