@@ -49,8 +49,8 @@ class Reader:
                     self.sources[os.path.relpath(file, top)] = Source(text.read(), os.path.relpath(file, top))
         self.methods = {name: made for source in self.sources.values() for name, made in source.functions.items() if "::" in name}
         self.fields = {name: fields for source in self.sources.values() for name, fields in source.fields.items()}
-        # The arrays of fields that were written, and the functions that are being read.
-        self.written, self.open = [], []
+        # The arrays of fields that were written, the lists that were used, and the functions that are being read.
+        self.written, self.listed, self.open = [], [], []
 
     def function(self, name, file=""):
         """Returns the only function with this name in the files whose paths end so. That of a type has the name `TYPE::FUNCTION`."""
@@ -74,6 +74,12 @@ class Reader:
         if not self.written:
             raise Stop("%s writes no fields" % name)
         return self.written
+
+    def lists(self, name, *values):
+        """Returns the lists that a call of a function may use by `of_list`, given the values of its first arguments."""
+        self.listed = []
+        self.returns(name, *values)
+        return tuple(self.listed)
 
     def returns(self, name, *values, file=""):
         """Returns the values of a call of a function, given those of its first arguments."""
@@ -223,6 +229,7 @@ class Reader:
         """Returns the values of a call of a method, if its type is known and was read."""
         _, receiver, name, arguments = expression
         given = [self.value(argument, names, frame) for argument in arguments]
+        self.listed += given[0] if name == "of_list" else ()
         found = []
         for value in self.value(receiver, names, frame):
             kind = value.path.split("::")[0] if isinstance(value, Made) else value.type if isinstance(value, Unknown) else ""

@@ -2,10 +2,10 @@ mod InBounds
 mod Counted
 mod ExportRows
 mod Facts
+mod Lists
 mod Flags
 mod RowLines
 mod SectionRows
 mod SectionsOfCommands
 mod Some
-mod Verdicts
 mod SegmentStatus

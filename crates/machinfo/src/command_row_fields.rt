@@ -32,7 +32,10 @@ impl<'a, 'b> ItemList for CommandRows<'a, 'b> {
         Some(Ok(self.take_next()?))
     }
 
-    fn write_item<F: FieldsForm, O: Write>(row: &CommandRow<'a, 'b>, out: &mut O) -> io::Result<()> {
+    fn write_item<F: FieldsForm, O: Write>(
+        row: &CommandRow<'a, 'b>,
+        out: &mut O,
+    ) -> io::Result<()> {
         match row {
             CommandRow::Itself(command) => write_command::<F, O>(command, out),
             CommandRow::Section(section) => write_section::<F, O>(section, out),

@@ -175,7 +175,10 @@ impl<'a, 'b> ItemList for LinkerOptions<'a, 'b> {
         self.0.next()
     }
 
-    fn write_item<F: FieldsForm, O: Write>(option: &(usize, &'a str), out: &mut O) -> io::Result<()> {
+    fn write_item<F: FieldsForm, O: Write>(
+        option: &(usize, &'a str),
+        out: &mut O,
+    ) -> io::Result<()> {
         F::write(&option_fields(option.0, option.1), out)
     }
 }
@@ -206,7 +209,10 @@ impl<'a, 'b> ItemList for BuildTools<'a, 'b> {
         self.0.next()
     }
 
-    fn write_item<F: FieldsForm, O: Write>(tool: &(usize, BuildToolVersion), out: &mut O) -> io::Result<()> {
+    fn write_item<F: FieldsForm, O: Write>(
+        tool: &(usize, BuildToolVersion),
+        out: &mut O,
+    ) -> io::Result<()> {
         F::write(&tool_fields(tool.0, tool.1), out)
     }
 }

@@ -96,13 +96,28 @@ pub fn print_parts<A: Allocator, O: Write>(
         × Appends (O.contents out.old) (O.contents out.new) text) }
 {
     let (form, refused) = (After(Entry), "entry: refused");
-    let entry = Lines { form, refused, limit: 1, left: 1 };
+    let entry = Lines {
+        form,
+        refused,
+        limit: 1,
+        left: 1,
+    };
     let entry = use_list(&entry, Word::Entry, image, out)?;
     let (form, refused, left) = (After(Segment), "segment: refused", limit);
-    let segments = Lines { form, refused, limit, left };
+    let segments = Lines {
+        form,
+        refused,
+        limit,
+        left,
+    };
     let segments = use_list(&segments, Word::Segments, image, out)?;
     let (form, refused) = (After(Section), "section: refused");
-    let sections = Lines { form, refused, limit, left };
+    let sections = Lines {
+        form,
+        refused,
+        limit,
+        left,
+    };
     let sections = use_list(&sections, Word::Sections, image, out)?;
     Ok(entry.whole & segments.whole & sections.whole)
 }

@@ -78,10 +78,22 @@ fn print_list<A: Allocator, O: Write>(
     let refused = "refused";
     if has_names(word) {
         let form = Pairs;
-        use_list(&Lines { form, refused, limit, left }, word, image, out)
+        let lines = Lines {
+            form,
+            refused,
+            limit,
+            left,
+        };
+        use_list(&lines, word, image, out)
     } else {
         let form = Line;
-        use_list(&Lines { form, refused, limit, left }, word, image, out)
+        let lines = Lines {
+            form,
+            refused,
+            limit,
+            left,
+        };
+        use_list(&lines, word, image, out)
     }
 }
 
@@ -124,7 +136,12 @@ fn print_imports<A: Allocator + Clone, O: Write>(
         bindings: image.bindings(),
     };
     let (form, refused) = (Line, "refused");
-    let lines = Lines { form, refused, limit, left };
+    let lines = Lines {
+        form,
+        refused,
+        limit,
+        left,
+    };
     Ok(lines.of_list(list, PastTheEnd::NONE, out)?)
 }
 

@@ -8,7 +8,7 @@ use Rattle.machinfo.proofs.views.print_list.Goals as goal
 
 pub returns-then-has_names : goal.returns-then-has_names
 returns-then-has_names g c = λ bytes opened.
-    ok_in c.print_in_form.result _ _ (λ outcome listed. (
+    ok_in c.use_list.result _ _ (λ outcome listed. (
       listed.0,
       record {
         opens = (opened.ctx, commands_view c.args.image.now, opened.opens);
@@ -16,11 +16,11 @@ returns-then-has_names g c = λ bytes opened.
             listed.0 outcome.whole outcome.left) (sym c.if-has_names.true ∙ c.has_names.ensures) listed.1;
       },
       listed.2,
-    )) (c.print_in_form.ensures bytes opened)
+    )) (c.use_list.ensures bytes opened)
 
 pub returns-else-has_names : goal.returns-else-has_names
 returns-else-has_names g c = λ bytes opened.
-    ok_in c.print_in_form-else-has_names.result _ _ (λ outcome listed. (
+    ok_in c.use_list-else-has_names.result _ _ (λ outcome listed. (
       listed.0,
       record {
         opens = (opened.ctx, commands_view c.args.image.now, opened.opens);
@@ -28,4 +28,4 @@ returns-else-has_names g c = λ bytes opened.
             listed.0 outcome.whole outcome.left) (sym c.if-has_names.false ∙ c.has_names.ensures) listed.1;
       },
       listed.2,
-    )) (c.print_in_form-else-has_names.ensures bytes opened)
+    )) (c.use_list-else-has_names.ensures bytes opened)
