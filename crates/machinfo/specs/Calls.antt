@@ -1,5 +1,6 @@
 -- What a call shows.
-use Rattle.std.specs.Prelude.{◌≡◌, ℕ, List, Option, codes, true}
+use Rattle.std.specs.Prelude.{◌≡◌, ℕ, List, Option, Some, codes, true}
+use Rattle.std.specs.Borrow.{Bor}
 use Rattle.std.specs.declared.io.buffered.BufWriter.{BufWriter}
 use Rattle.mach_cli.specs.Bounds.{limit_of}
 use Rattle.mach_cli.specs.Calls.{is_json}
@@ -9,8 +10,8 @@ use Rattle.mach_cli.specs.declared.image_files.ImageFiles.{ImageFiles}
 use Rattle.mach_cli.specs.declared.options.SharedOnly.{SharedOnly}
 use Rattle.mach_cli.specs.declared.titled.Titled.{Titled}
 use Rattle.machinfo.specs.ImageLines.{AreInfoLines, AreInfoMembers}
+use Rattle.machinfo.specs.Words.{selected}
 use Rattle.machinfo.specs.declared.json.InfoObjects.{InfoObjects}
-use Rattle.machinfo.specs.declared.selection.Selection.{Selection}
 use Rattle.machinfo.specs.declared.views.InfoLines.{InfoLines}
 use Rattle.machinfo.specs.declared.word.Choice.{Choice}
 
@@ -24,14 +25,16 @@ pub record AreInfoFiles {A : Type 0} (call : Call A SharedOnly) (choice : Option
   pub lines : s.lines ≡ record { choice = choice }
   pub objects : s.objects ≡ record { choice = choice }
 
--- A call shows a selection: of its files, and of those that the call names in other ways, as lines.
-abbrev pub ShowsInfoLines : {W A B : Type 0} → (contents : W → Option (List ℕ)) → Call A SharedOnly → Selection → (old new : BufWriter (Titled W) B)
-    → (worst : ℕ) → Type 0
-ShowsInfoLines contents call selection old new worst = (s : ImageFiles InfoLines InfoObjects) × AreInfoFiles call selection.choice s
-    × ShowsText s s.program.name.now (AreInfoLines s.lines.choice) contents selection.files.now call.others old new worst
+-- A call shows what its arguments select, of their files and of those that it names in other ways, as lines.
+abbrev pub ShowsInfoLines : {W A B : Type 0} → (contents : W → Option (List ℕ)) → Call A SharedOnly → (old new : BufWriter (Titled W) B) → (worst : ℕ) → Type 0
+ShowsInfoLines contents call old new worst =
+    (choice : Option Choice) × (files : List (Bor (List ℕ))) × (selected call.address call.words.items ≡ Some (choice, files))
+    × (s : ImageFiles InfoLines InfoObjects) × AreInfoFiles call choice s
+    × ShowsText s s.program.name.now (AreInfoLines s.lines.choice) contents files call.others old new worst
 
 -- the same as objects
-abbrev pub ShowsInfoObjects : {W A B : Type 0} → (contents : W → Option (List ℕ)) → Call A SharedOnly → Selection → (old new : BufWriter (Titled W) B)
-    → (worst : ℕ) → Type 0
-ShowsInfoObjects contents call selection old new worst = (s : ImageFiles InfoLines InfoObjects) × AreInfoFiles call selection.choice s
-    × ShowsJson s s.program.name.now (AreInfoMembers s.objects.choice) contents selection.files.now call.others old new worst
+abbrev pub ShowsInfoObjects : {W A B : Type 0} → (contents : W → Option (List ℕ)) → Call A SharedOnly → (old new : BufWriter (Titled W) B) → (worst : ℕ) → Type 0
+ShowsInfoObjects contents call old new worst =
+    (choice : Option Choice) × (files : List (Bor (List ℕ))) × (selected call.address call.words.items ≡ Some (choice, files))
+    × (s : ImageFiles InfoLines InfoObjects) × AreInfoFiles call choice s
+    × ShowsJson s s.program.name.now (AreInfoMembers s.objects.choice) contents files call.others old new worst

@@ -130,6 +130,19 @@ fn start(rt: &HostRuntime) -> Result<u8, u8> {
 
 // Runs a parsed call.
 fn answer(rt: &HostRuntime, call: &Call<'_, Global, SharedOnly>) -> Result<u8, u8> {
+    let mut out = PROGRAM.output(rt, call.color, call.format)?;
+    show_call(rt, call, &mut out)
+}
+
+// Shows what the arguments of a call select, of all files that it names, and returns the worst status.
+fn show_call<W: Write + Drop>(
+    rt: &HostRuntime,
+    call: &Call<'_, Global, SharedOnly>,
+    out: &mut BufWriter<Titled<W>>,
+) -> Result<u8, u8>
+    ensures lines { is_json call.now.format ≡ false → IfOk result (ShowsInfoLines W.contents call.now out.old out.new) }
+    ensures objects { is_json call.now.format ≡ true → IfOk result (ShowsInfoObjects W.contents call.now out.old out.new) }
+{
     let selection = match selection_of(call.address, &call.words) {
         Ok(selection) => selection,
         Err(misuse) => return Err(PROGRAM.bad_usage(rt, misuse)),
@@ -140,20 +153,6 @@ fn answer(rt: &HostRuntime, call: &Call<'_, Global, SharedOnly>) -> Result<u8, u
     if let Some(misuse) = misspelled(rt, selection) {
         return Err(PROGRAM.bad_usage(rt, misuse));
     }
-    let mut out = PROGRAM.output(rt, call.color, call.format)?;
-    show_selected(rt, call, selection, &mut out)
-}
-
-// Shows a selection of the files of a call, and of those that the call names in other ways, and returns the worst status.
-fn show_selected<W: Write + Drop>(
-    rt: &HostRuntime,
-    call: &Call<'_, Global, SharedOnly>,
-    selection: Selection<'_, '_>,
-    out: &mut BufWriter<Titled<W>>,
-) -> Result<u8, u8>
-    ensures lines { is_json call.now.format ≡ false → IfOk result (ShowsInfoLines W.contents call.now selection.entry out.old out.new) }
-    ensures objects { is_json call.now.format ≡ true → IfOk result (ShowsInfoObjects W.contents call.now selection.entry out.old out.new) }
-{
     let shown = shown_by(call, selection.choice);
     show(rt, &shown, selection.files, &call.others, out)
 }
