@@ -127,6 +127,16 @@ fn start(rt: &HostRuntime) -> Result<u8, u8> {
 
 // Runs a parsed call.
 fn answer(rt: &HostRuntime, call: &Call<'_, SharedOnly>) -> Result<u8, u8> {
+    let mut out = PROGRAM.output(rt, call.color, call.format)?;
+    show_call(rt, call, &mut out)
+}
+
+// Shows what the arguments of a call select, of all files that it names, and returns the worst status.
+fn show_call<W: Write>(
+    rt: &HostRuntime,
+    call: &Call<'_, SharedOnly>,
+    out: &mut BufWriter<Titled<W>>,
+) -> Result<u8, u8> {
     let selection = match selection_of(call.address, &call.words) {
         Ok(selection) => selection,
         Err(misuse) => return Err(PROGRAM.bad_usage(rt, misuse)),
@@ -137,17 +147,6 @@ fn answer(rt: &HostRuntime, call: &Call<'_, SharedOnly>) -> Result<u8, u8> {
     if let Some(misuse) = misspelled(rt, selection) {
         return Err(PROGRAM.bad_usage(rt, misuse));
     }
-    let mut out = PROGRAM.output(rt, call.color, call.format)?;
-    show_selected(rt, call, selection, &mut out)
-}
-
-// Shows a selection of the files of a call, and of those that the call names in other ways, and returns the worst status.
-fn show_selected<W: Write>(
-    rt: &HostRuntime,
-    call: &Call<'_, SharedOnly>,
-    selection: Selection<'_, '_>,
-    out: &mut BufWriter<Titled<W>>,
-) -> Result<u8, u8> {
     let shown = shown_by(call, selection.choice);
     show(rt, &shown, selection.files, &call.others, out)
 }

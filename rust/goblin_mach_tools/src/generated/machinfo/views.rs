@@ -64,30 +64,22 @@ fn print_list<O: Write>(
     let refused = "refused";
     if has_names(word) {
         let form = Pairs;
-        use_list(
-            &Lines {
-                form,
-                refused,
-                limit,
-                left,
-            },
-            word,
-            image,
-            out,
-        )
+        let lines = Lines {
+            form,
+            refused,
+            limit,
+            left,
+        };
+        use_list(&lines, word, image, out)
     } else {
         let form = Line;
-        use_list(
-            &Lines {
-                form,
-                refused,
-                limit,
-                left,
-            },
-            word,
-            image,
-            out,
-        )
+        let lines = Lines {
+            form,
+            refused,
+            limit,
+            left,
+        };
+        use_list(&lines, word, image, out)
     }
 }
 
