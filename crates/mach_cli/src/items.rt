@@ -32,20 +32,6 @@ pub trait ItemList {
         ensures { OnOk result (Appends (O.contents out.old) (O.contents out.new) (F.fields_text (fields item.now))) };
 }
 
-/// How many more items a list claims, with records that begin past the end of the bytes.
-#[derive(Clone, Copy)]
-pub struct PastTheEnd {
-    /// Their number.
-    pub count: usize,
-    /// What such items are called, as a plural.
-    pub name: &'static str,
-}
-
-impl PastTheEnd {
-    /// A list claims no more.
-    pub const NONE: PastTheEnd = PastTheEnd { count: 0, name: "" };
-}
-
 /// A list whose items are written in a form.
 #[derive(Drop)]
 pub struct InForm<L, F> {
@@ -53,8 +39,10 @@ pub struct InForm<L, F> {
     pub list: L,
     /// The form.
     pub form: F,
-    /// How many more items it claims.
-    pub past: PastTheEnd,
+    /// How many more items it claims, with records that begin past the end of the bytes.
+    pub past: usize,
+    /// What such items are called, as a plural.
+    pub past_name: &'static str,
 }
 
 impl<L: ItemList, F: FieldsForm> Listing for InForm<L, F> {
@@ -64,9 +52,9 @@ impl<L: ItemList, F: FieldsForm> Listing for InForm<L, F> {
 
     ghost left = { λ s. map (reported_by F.fields_text) (L.items_left s.list) };
 
-    ghost past = { λ s. s.past.count };
+    ghost past = { λ s. s.past };
 
-    ghost past_name = { λ s. s.past.name.now };
+    ghost past_name = { λ s. s.past_name.now };
 
     #[tactic(auto, using(crate::proofs::Formed::formed_next))]
     fn next_row(&mut self) -> Option<goblin_mach::Result<L::Item>> {
@@ -74,11 +62,11 @@ impl<L: ItemList, F: FieldsForm> Listing for InForm<L, F> {
     }
 
     fn past(&self) -> usize {
-        self.past.count
+        self.past
     }
 
     fn past_name(&self) -> &'static str {
-        self.past.name
+        self.past_name
     }
 
     fn write_row<O: Write>(row: &L::Item, out: &mut O) -> io::Result<()> {

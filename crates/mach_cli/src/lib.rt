@@ -87,7 +87,7 @@ pub use crate::image_files::ImageFiles;
 pub use crate::image_kinds::image_kind;
 pub use crate::image_view::{ImageView, Outcome};
 pub use crate::images_view::ImagesView;
-pub use crate::items::{InForm, ItemList, PastTheEnd};
+pub use crate::items::{InForm, ItemList};
 pub use crate::json::array::{
     comma_before, print_array, print_empty, print_end, print_end_past, print_member, then,
 };

@@ -9,9 +9,7 @@ ghost use Rattle.machfixups.specs.RowsLeft.{image_rows_left, rows_left};
 
 use crate::lists::ImageRows;
 use crate::rows::Rows;
-use mach_cli::{
-    InForm, ListProgress, Object, Outcome, PastTheEnd, print_end, print_member, then,
-};
+use mach_cli::{InForm, ListProgress, Object, Outcome, print_end, print_member, then};
 use std::alloc::Allocator;
 use std::io;
 use std::io::Write;
@@ -51,7 +49,8 @@ fn write_list<A: Allocator, O: Write>(
     let mut objects = InForm {
         list,
         form: Object,
-        past: PastTheEnd::NONE,
+        past: 0,
+        past_name: "",
     };
     print_member(name, &mut objects, limit, out)
 }

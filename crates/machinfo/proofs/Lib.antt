@@ -2,7 +2,7 @@ mod InBounds
 mod Counted
 mod ExportRows
 mod Facts
-mod Lists
+mod ListRows
 mod Flags
 mod RowLines
 mod SectionRows

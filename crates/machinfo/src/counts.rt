@@ -8,7 +8,7 @@ ghost use Rattle.machinfo.specs.Counts.{count_members, count_text, count_reporte
 use crate::list::{ListUse, use_list};
 use crate::word::Word;
 use goblin_mach::MachO;
-use mach_cli::{InForm, ItemList, Line, ListProgress, Outcome, PastTheEnd, count_rows, word_if};
+use mach_cli::{InForm, ItemList, Line, ListProgress, Outcome, count_rows, word_if};
 use std::alloc::Allocator;
 use std::fmt::{Display, Formatter};
 use std::io::Write;
@@ -128,20 +128,24 @@ struct Count {
 }
 
 impl ListUse for Count {
-    ghost writes = { λ s rows past _ text outcome. IsCount s.form s.word s.limit rows past text outcome.whole };
+    ghost writes = { λ s rows past text outcome. IsCount s.form s.word s.limit rows past text outcome.whole };
 
     fn of_list<L: ItemList + Drop, O: Write>(
         &self,
         list: L,
-        past: PastTheEnd,
+        past: usize,
         out: &mut O,
     ) -> io::Result<Outcome> {
-        let form = Line;
-        let mut list = InForm { list, form, past };
+        let mut list = InForm {
+            list,
+            form: Line,
+            past,
+            past_name: "",
+        };
         let reported = count_rows(&mut list, self.limit);
-        write_count(self.form, self.word, self.limit, reported, past.count, out)?;
+        write_count(self.form, self.word, self.limit, reported, past, out)?;
         Ok(Outcome {
-            whole: reported.whole & !reported.more & (past.count == 0),
+            whole: reported.whole & !reported.more & (past == 0),
             left: reported.left,
         })
     }

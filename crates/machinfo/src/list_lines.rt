@@ -9,32 +9,37 @@ ghost use Rattle.machinfo.specs.FactTexts.{fact_text};
 ghost use Rattle.machinfo.specs.PartLines.{line_after};
 
 use crate::list::ListUse;
-use mach_cli::{FieldsForm, InForm, ItemList, Outcome, PastTheEnd, print_listing};
+use mach_cli::{FieldsForm, InForm, ItemList, Outcome, print_listing};
 use std::io;
 use std::io::Write;
 
-/// Prints the rows of a list in a form, at most `left` of them; a row that can't be read is `refused` and why. It answers whether all
-/// rows were printed and can be read, and how many more may be printed.
+/// Prints the rows of a list in a form, at most `left` of them; a row that can't be read is `refused` and why. Rows past the end of the bytes
+/// have a name. It answers whether all rows were printed and can be read, and how many more may be printed.
 #[derive(Clone, Copy)]
 pub struct Lines<'a, F> {
     pub form: F,
     pub refused: &'a str,
+    pub past_name: &'static str,
     pub limit: usize,
     pub left: usize,
 }
 
 impl<'a, F: FieldsForm + Copy + Drop> ListUse for Lines<'a, F> {
-    ghost writes = { λ s rows past name text outcome.
-        AreFirstLines s.refused.now s.limit s.left (map (reported_by F.fields_text) rows) name past text outcome.whole outcome.left };
+    ghost writes = { λ s rows past text outcome.
+        AreFirstLines s.refused.now s.limit s.left (map (reported_by F.fields_text) rows) s.past_name.now past text outcome.whole outcome.left };
 
     fn of_list<L: ItemList + Drop, O: Write>(
         &self,
         list: L,
-        past: PastTheEnd,
+        past: usize,
         out: &mut O,
     ) -> io::Result<Outcome> {
-        let form = self.form;
-        let mut lines = InForm { list, form, past };
+        let mut lines = InForm {
+            list,
+            form: self.form,
+            past,
+            past_name: self.past_name,
+        };
         print_listing(&mut lines, self.refused, self.limit, self.left, out)
     }
 }

@@ -75,12 +75,14 @@ impl<'a> ItemList for FunctionStarts<'a> {
 
     ghost items_left = { λ s. fields_read start_fields (starts_left s.0) };
 
-    #[tactic(auto, using(crate::proofs::Lists::next_fields))]
+    #[tactic(auto, using(crate::proofs::ListRows::next_fields))]
     fn next_item(&mut self) -> Option<Result<u64>> {
         self.0.next()
     }
 
-    fn write_item<F: FieldsForm, O: Write>(address: &u64, out: &mut O) -> io::Result<()> {
+    fn write_item<F: FieldsForm, O: Write>(address: &u64, out: &mut O) -> io::Result<()>
+        ensures { OnOk result (Appends (O.contents out.old) (O.contents out.new) (F.fields_text (start_fields address.now))) }
+    {
         F::write(&[Field::new("address", Value::Hex(*address), 1)], out)
     }
 }
@@ -96,12 +98,14 @@ impl<'a> ItemList for IndirectSymbols<'a> {
 
     ghost items_left = { λ s. fields_read indirect_fields (indirect_left s.0) };
 
-    #[tactic(auto, using(crate::proofs::Lists::next_fields))]
+    #[tactic(auto, using(crate::proofs::ListRows::next_fields))]
     fn next_item(&mut self) -> Option<Result<IndirectSymbol>> {
         self.0.next()
     }
 
-    fn write_item<F: FieldsForm, O: Write>(entry: &IndirectSymbol, out: &mut O) -> io::Result<()> {
+    fn write_item<F: FieldsForm, O: Write>(entry: &IndirectSymbol, out: &mut O) -> io::Result<()>
+        ensures { OnOk result (Appends (O.contents out.old) (O.contents out.new) (F.fields_text (indirect_fields entry.now))) }
+    {
         write_indirect::<F, O>(*entry, out)
     }
 }
@@ -138,12 +142,14 @@ impl<'a> ItemList for DataInCode<'a> {
 
     ghost items_left = { λ s. fields_read data_fields (data_in_code_left s.0) };
 
-    #[tactic(auto, using(crate::proofs::Lists::next_fields))]
+    #[tactic(auto, using(crate::proofs::ListRows::next_fields))]
     fn next_item(&mut self) -> Option<Result<DataInCodeEntry>> {
         self.0.next()
     }
 
-    fn write_item<F: FieldsForm, O: Write>(entry: &DataInCodeEntry, out: &mut O) -> io::Result<()> {
+    fn write_item<F: FieldsForm, O: Write>(entry: &DataInCodeEntry, out: &mut O) -> io::Result<()>
+        ensures { OnOk result (Appends (O.contents out.old) (O.contents out.new) (F.fields_text (data_fields entry.now))) }
+    {
         F::write(&data_fields(*entry), out)
     }
 }
@@ -170,15 +176,14 @@ impl<'a, 'b> ItemList for LinkerOptions<'a, 'b> {
 
     ghost items_left = { λ s. fields_read option_fields (options_left s.0) };
 
-    #[tactic(auto, using(crate::proofs::Lists::next_fields))]
+    #[tactic(auto, using(crate::proofs::ListRows::next_fields))]
     fn next_item(&mut self) -> Option<Result<(usize, &'a str)>> {
         self.0.next()
     }
 
-    fn write_item<F: FieldsForm, O: Write>(
-        option: &(usize, &'a str),
-        out: &mut O,
-    ) -> io::Result<()> {
+    fn write_item<F: FieldsForm, O: Write>(option: &(usize, &'a str), out: &mut O) -> io::Result<()>
+        ensures { OnOk result (Appends (O.contents out.old) (O.contents out.new) (F.fields_text (option_fields (option.now.0, option.now.1.now)))) }
+    {
         F::write(&option_fields(option.0, option.1), out)
     }
 }
@@ -204,7 +209,7 @@ impl<'a, 'b> ItemList for BuildTools<'a, 'b> {
 
     ghost items_left = { λ s. fields_read tool_fields (build_tools_left s.0) };
 
-    #[tactic(auto, using(crate::proofs::Lists::next_fields))]
+    #[tactic(auto, using(crate::proofs::ListRows::next_fields))]
     fn next_item(&mut self) -> Option<Result<(usize, BuildToolVersion)>> {
         self.0.next()
     }
@@ -212,7 +217,9 @@ impl<'a, 'b> ItemList for BuildTools<'a, 'b> {
     fn write_item<F: FieldsForm, O: Write>(
         tool: &(usize, BuildToolVersion),
         out: &mut O,
-    ) -> io::Result<()> {
+    ) -> io::Result<()>
+        ensures { OnOk result (Appends (O.contents out.old) (O.contents out.new) (F.fields_text (tool_fields tool.now))) }
+    {
         F::write(&tool_fields(tool.0, tool.1), out)
     }
 }
@@ -240,12 +247,14 @@ impl<'a, 'b> ItemList for NumberedNotes<'a, 'b> {
 
     ghost items_left = { λ s. fields_read note_fields (notes_numbered_left s) };
 
-    #[tactic(auto, using(crate::proofs::Lists::next_fields))]
+    #[tactic(auto, using(crate::proofs::ListRows::next_fields))]
     fn next_item(&mut self) -> Option<Result<NumberedNote<'a>>> {
         self.take_next()
     }
 
-    fn write_item<F: FieldsForm, O: Write>(note: &NumberedNote<'a>, out: &mut O) -> io::Result<()> {
+    fn write_item<F: FieldsForm, O: Write>(note: &NumberedNote<'a>, out: &mut O) -> io::Result<()>
+        ensures { OnOk result (Appends (O.contents out.old) (O.contents out.new) (F.fields_text (note_fields (numbered_note_view note.now)))) }
+    {
         F::write(&note_fields(*note), out)
     }
 }
@@ -274,7 +283,7 @@ impl<'a, 'b> ItemList for Slots<'a, 'b> {
 
     ghost items_left = { λ s. fields_read slot_fields (slots_left s.0) };
 
-    #[tactic(auto, using(crate::proofs::Lists::next_fields))]
+    #[tactic(auto, using(crate::proofs::ListRows::next_fields))]
     fn next_item(&mut self) -> Option<Result<SymbolSlot<'a>>> {
         self.0.next()
     }
@@ -326,7 +335,7 @@ impl<'a, 'b, A: Allocator> ItemList for ProvidedSymbols<'a, 'b, A> {
 
     ghost items_left = { λ s. fields_read provided_fields (provided_left s) };
 
-    #[tactic(auto, using(crate::proofs::Lists::next_fields))]
+    #[tactic(auto, using(crate::proofs::ListRows::next_fields))]
     fn next_item(&mut self) -> Option<Result<Provided<'a>>> {
         self.take_next()
     }
@@ -375,7 +384,9 @@ impl<'a, 'b> ItemList for Libraries<'a, 'b> {
         Some(Ok(self.0.next()?))
     }
 
-    fn write_item<F: FieldsForm, O: Write>(library: &Library<'a>, out: &mut O) -> io::Result<()> {
+    fn write_item<F: FieldsForm, O: Write>(library: &Library<'a>, out: &mut O) -> io::Result<()>
+        ensures { OnOk result (Appends (O.contents out.old) (O.contents out.new) (F.fields_text (library_fields (library_view library.now)))) }
+    {
         write_library::<F, O>(*library, out)
     }
 }
@@ -440,7 +451,7 @@ impl<'a, 'b> ItemList for Rebases<'a, 'b> {
 
     ghost items_left = { λ s. fields_read rebase_row_fields (rebases_left s.0) };
 
-    #[tactic(auto, using(crate::proofs::Lists::next_fields))]
+    #[tactic(auto, using(crate::proofs::ListRows::next_fields))]
     fn next_item(&mut self) -> Option<Result<Rebase>> {
         self.0.next()
     }
@@ -484,7 +495,7 @@ impl<'a, 'b> ItemList for WeakBinds<'a, 'b> {
 
     ghost items_left = { λ s. fields_read weak_row_fields (weak_binds_left s.0) };
 
-    #[tactic(auto, using(crate::proofs::Lists::next_fields))]
+    #[tactic(auto, using(crate::proofs::ListRows::next_fields))]
     fn next_item(&mut self) -> Option<Result<WeakBind<'a>>> {
         self.0.next()
     }
@@ -536,7 +547,7 @@ impl<'a, 'b, A: Allocator> ItemList for HardeningFindings<'a, 'b, A> {
 
     ghost items_left = { λ s. fields_read finding_fields (findings_left s.0) };
 
-    #[tactic(auto, using(crate::proofs::Lists::next_fields))]
+    #[tactic(auto, using(crate::proofs::ListRows::next_fields))]
     fn next_item(&mut self) -> Option<Result<Finding>> {
         self.0.take_next()
     }

@@ -26,8 +26,7 @@ use goblin_mach::names::cpu_name;
 use goblin_mach::{Error, MachO, Result, describe};
 use mach_audit::{CommandFacts, FactList, Question, State, state_of};
 use mach_cli::{
-    InForm, ListProgress, Object, PastTheEnd, StringOrNull, comma_before, image_kind, print_member,
-    then,
+    InForm, ListProgress, Object, StringOrNull, comma_before, image_kind, print_member, then,
 };
 use mach_signature::CodeDirectory;
 use mach_signature::image::code_directory;
@@ -72,7 +71,8 @@ fn write_entry<A: Allocator, O: Write>(
     let mut list = InForm {
         list: EntryPoint::of(image),
         form: Object,
-        past: PastTheEnd::NONE,
+        past: 0,
+        past_name: "",
     };
     let reported = print_member("entrypoint", &mut list, 1, out)?;
     Ok(reported)

@@ -3,7 +3,7 @@
 ghost use Rattle.std.specs.Prelude.{ℕ, List, codes, IfOk};
 ghost use Rattle.std.specs.Io.KnownBytes.{Appends};
 ghost use Rattle.goblin_mach.specs.OpenImage.{IsImage};
-ghost use Rattle.machinfo.specs.PartLines.{line_after, AreLinesOfParts};
+ghost use Rattle.machinfo.specs.PartLines.{line_after, AreLinesOfParts, ArePartLines};
 
 use crate::list::use_list;
 use crate::list_lines::Lines;
@@ -95,29 +95,44 @@ pub fn print_parts<A: Allocator, O: Write>(
     ensures { (bytes : List ℕ) → IsImage bytes 0 image.now → IfOk result (λ whole. (text : List ℕ) × AreLinesOfParts limit bytes text whole
         × Appends (O.contents out.old) (O.contents out.new) text) }
 {
-    let (form, refused) = (After(Entry), "entry: refused");
-    let entry = Lines {
-        form,
-        refused,
-        limit: 1,
-        left: 1,
-    };
-    let entry = use_list(&entry, Word::Entry, image, out)?;
-    let (form, refused, left) = (After(Segment), "segment: refused", limit);
-    let segments = Lines {
-        form,
-        refused,
+    let entry = print_after(Entry, "entry: refused", Word::Entry, image, 1, out)?;
+    let segments = print_after(
+        Segment,
+        "segment: refused",
+        Word::Segments,
+        image,
         limit,
-        left,
-    };
-    let segments = use_list(&segments, Word::Segments, image, out)?;
-    let (form, refused) = (After(Section), "section: refused");
-    let sections = Lines {
-        form,
-        refused,
+        out,
+    )?;
+    let sections = print_after(
+        Section,
+        "section: refused",
+        Word::Sections,
+        image,
         limit,
-        left,
+        out,
+    )?;
+    Ok(entry & segments & sections)
+}
+
+// Prints the lines of a word's list up to a limit, each after a label, and returns whether all were printed and can be read.
+fn print_after<L: Label + Copy + Drop, A: Allocator, O: Write>(
+    label: L,
+    refused: &str,
+    word: Word,
+    image: &MachO<'_, A>,
+    limit: usize,
+    out: &mut O,
+) -> io::Result<bool>
+    ensures { (bytes : List ℕ) → IsImage bytes 0 image.now → IfOk result (λ whole. (text : List ℕ) × ArePartLines word L.word refused.now limit bytes text whole
+        × Appends (O.contents out.old) (O.contents out.new) text) }
+{
+    let lines = Lines {
+        form: After(label),
+        refused,
+        past_name: word.past_name(),
+        limit,
+        left: limit,
     };
-    let sections = use_list(&sections, Word::Sections, image, out)?;
-    Ok(entry.whole & segments.whole & sections.whole)
+    Ok(use_list(&lines, word, image, out)?.whole)
 }

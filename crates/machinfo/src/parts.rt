@@ -1,6 +1,7 @@
 //! The parts of an image that are lists of rows.
 
-ghost use Rattle.std.specs.Prelude.{◌≡◌, Ok, map, option_map};
+ghost use Rattle.std.specs.Prelude.{◌≡◌, Ok, map, option_map, OnOk};
+ghost use Rattle.std.specs.Io.KnownBytes.{Appends};
 ghost use Rattle.std.specs.Iterator.{YieldsFirst};
 ghost use Rattle.std.specs.List.{filter_map};
 ghost use Rattle.mach_base.specs.Text.{texts};
@@ -150,7 +151,9 @@ impl<'b> ItemList for UuidRows<'b> {
         Some(Ok(self.take_next()?))
     }
 
-    fn write_item<F: FieldsForm, O: Write>(row: &UuidRow, out: &mut O) -> io::Result<()> {
+    fn write_item<F: FieldsForm, O: Write>(row: &UuidRow, out: &mut O) -> io::Result<()>
+        ensures { OnOk result (Appends (O.contents out.old) (O.contents out.new) (F.fields_text (uuid_part_fields row.now))) }
+    {
         F::write(&uuid_fields(row), out)
     }
 }

@@ -4,13 +4,10 @@ ghost use Rattle.std.specs.Prelude.{◌≡◌};
 ghost use Rattle.std.specs.Iterator.{YieldsFirstBy};
 ghost use Rattle.mach_base.specs.Text.{texts};
 ghost use Rattle.goblin_mach.specs.ImageSlots.{symbol_table_view};
-ghost use Rattle.machinfo.specs.Lists.{past_name};
 ghost use Rattle.machinfo.specs.ProvidedSymbols.{provided_in, provided_left, provided_read, symbols_past_in};
-ghost use Rattle.machinfo.specs.declared.word.Word.TheVariants.{Providers};
 
 use goblin_mach::symbols::SymbolIterator;
 use goblin_mach::{MachO, Provider, Result};
-use mach_cli::PastTheEnd;
 use std::alloc::Allocator;
 
 /// A symbol, and its provider.
@@ -29,21 +26,17 @@ pub struct ProvidedSymbols<'a, 'b, A: Allocator> {
 
 impl<'a, 'b, A: Allocator> ProvidedSymbols<'a, 'b, A> {
     /// Returns the symbols of an image that have a provider, and how many more symbols its table claims past the end of the bytes.
-    pub fn of(image: &'b MachO<'a, A>) -> (Self, PastTheEnd)
+    pub fn of(image: &'b MachO<'a, A>) -> (Self, usize)
         ensures left { provided_left result.0 ≡ provided_in image.now.header.flags (texts image.now.libs.items) (symbol_table_view image.now) }
-        ensures past { result.1.count ≡ symbols_past_in (symbol_table_view image.now) }
-        ensures name { result.1.name.now ≡ past_name Providers }
+        ensures past { result.1 ≡ symbols_past_in (symbol_table_view image.now) }
     {
-        let name = "symbols";
         let Some(table) = &image.symbols else {
             let symbols = SymbolIterator::default();
-            let past = PastTheEnd { count: 0, name };
-            return (ProvidedSymbols { image, symbols }, past);
+            return (ProvidedSymbols { image, symbols }, 0);
         };
         let in_bounds = table.in_bounds();
-        let count = table.len() - in_bounds.len();
         let symbols = in_bounds.iter();
-        let past = PastTheEnd { count, name };
+        let past = table.len() - in_bounds.len();
         (ProvidedSymbols { image, symbols }, past)
     }
 

@@ -5,17 +5,15 @@ ghost use Rattle.std.specs.Iterator.{YieldsFirstBy};
 ghost use Rattle.mach_base.specs.Answer.{Reads};
 ghost use Rattle.mach_parts.specs.Segment.{segment_view};
 ghost use Rattle.goblin_mach.specs.OpenImage.{segments_view};
-ghost use Rattle.machinfo.specs.Lists.{past_name};
 ghost use Rattle.machinfo.specs.PartFields.{section_part_fields};
 ghost use Rattle.machinfo.specs.RowFields.{fields_read};
 ghost use Rattle.machinfo.specs.SectionRows.{section_row_at, section_row_read, section_rows_in, sections_counted_left, sections_begun, sections_past};
-ghost use Rattle.machinfo.specs.declared.word.Word.TheVariants.{Sections};
 
 use crate::part_fields::{section_fields, stub_fields};
 use crate::segments::SectionList;
 use goblin_mach::segment::{NumberedSection, Segment};
 use goblin_mach::{MachO, Result};
-use mach_cli::{FieldsForm, ItemList, PastTheEnd};
+use mach_cli::{FieldsForm, ItemList};
 use std::alloc::Allocator;
 use std::io;
 use std::io::Write;
@@ -72,21 +70,19 @@ fn row_at(segment: &Segment<'_>, n: usize, taken: u32, before: u64) -> Result<Se
 
 impl<'a, 'b> CountedSections<'a, 'b> {
     /// Returns the sections of an image, and how many more its segments claim past the end of the bytes.
-    pub fn of<A: Allocator>(image: &'b MachO<'a, A>) -> (Self, PastTheEnd)
+    pub fn of<A: Allocator>(image: &'b MachO<'a, A>) -> (Self, usize)
         ensures left { sections_counted_left result.0 ≡ section_rows_in 0 0 (segments_view image.now) }
-        ensures past { result.1.count ≡ sections_past (segments_view image.now) }
-        ensures name { result.1.name.now ≡ past_name Sections }
+        ensures past { result.1 ≡ sections_past (segments_view image.now) }
     {
         let segments = image.segments.as_slice();
-        let count = sections_past(segments);
+        let past = sections_past(segments);
         let sections = CountedSections {
             segments,
             segment: 0,
             taken: 0,
             before: 0,
         };
-        let name = "sections";
-        (sections, PastTheEnd { count, name })
+        (sections, past)
     }
 
     /// Returns the next section, or the error if it can't be read.
@@ -117,7 +113,7 @@ impl<'a, 'b> ItemList for CountedSections<'a, 'b> {
 
     ghost items_left = { λ s. fields_read section_part_fields (sections_counted_left s) };
 
-    #[tactic(auto, using(crate::proofs::Lists::next_fields))]
+    #[tactic(auto, using(crate::proofs::ListRows::next_fields))]
     fn next_item(&mut self) -> Option<Result<SectionRow>> {
         self.take_next()
     }

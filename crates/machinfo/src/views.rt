@@ -12,7 +12,7 @@ ghost use Rattle.machinfo.specs.RowFields.{has_names};
 use crate::counts::{COUNTED, Form, print_counts};
 use crate::export_rows::{ExportForm, print_exports_of, walk_of};
 use crate::imports::ImportList;
-use crate::list::{ListUse, use_list};
+use crate::list::use_list;
 use crate::list_lines::Lines;
 use crate::part_lines::print_parts;
 use crate::signed::print_signed;
@@ -22,7 +22,7 @@ use crate::word::{Choice, Word};
 use goblin_mach::{AllStretches, MachO};
 use mach_audit::state_of;
 use mach_cli::{
-    AddressLinesOf, ImageView, Line, Outcome, Pairs, PastTheEnd, ShowFailure, print_cut,
+    AddressLinesOf, ImageView, InForm, Line, Outcome, Pairs, ShowFailure, print_cut, print_listing,
 };
 use std::alloc::Allocator;
 use std::io;
@@ -75,21 +75,21 @@ fn print_list<A: Allocator, O: Write>(
     ensures { (bytes : List ℕ) → IsImage bytes 0 image.now → IfOk result (λ outcome. (text : List ℕ)
         × AreImageListLines word limit left bytes text outcome.whole outcome.left × Appends (O.contents out.old) (O.contents out.new) text) }
 {
-    let refused = "refused";
+    let (refused, past_name) = ("refused", word.past_name());
     if has_names(word) {
-        let form = Pairs;
         let lines = Lines {
-            form,
+            form: Pairs,
             refused,
+            past_name,
             limit,
             left,
         };
         use_list(&lines, word, image, out)
     } else {
-        let form = Line;
         let lines = Lines {
-            form,
+            form: Line,
             refused,
+            past_name,
             limit,
             left,
         };
@@ -135,14 +135,13 @@ fn print_imports<A: Allocator + Clone, O: Write>(
         parts: &parts,
         bindings: image.bindings(),
     };
-    let (form, refused) = (Line, "refused");
-    let lines = Lines {
-        form,
-        refused,
-        limit,
-        left,
+    let mut lines = InForm {
+        list,
+        form: Line,
+        past: 0,
+        past_name: "",
     };
-    Ok(lines.of_list(list, PastTheEnd::NONE, out)?)
+    Ok(print_listing(&mut lines, "refused", limit, left, out)?)
 }
 
 // Whether the lines of a word's list have the names of fields.

@@ -1,6 +1,7 @@
 //! The words that select a list.
 
 ghost use Rattle.std.specs.Prelude.{◌≡◌};
+ghost use Rattle.machinfo.specs.Lists.{past_name};
 ghost use Rattle.machinfo.specs.Words.{choice_named, spelling_of, word_named};
 
 /// What a call shows of an image in place of its summary.
@@ -129,6 +130,19 @@ impl Word {
             Word::Entry => "entrypoint",
             Word::Header => "header",
             Word::Security => "security",
+        }
+    }
+
+    /// Returns what the items of the word's list are called, if more of them may be claimed past the end of the bytes.
+    pub fn past_name(self) -> &'static str
+        ensures { result.now ≡ past_name self }
+    {
+        match self {
+            Word::Indirect => "indirect symbols",
+            Word::Data => "data in code entries",
+            Word::Providers => "symbols",
+            Word::Sections => "sections",
+            _ => "",
         }
     }
 }

@@ -10,7 +10,7 @@ returns-clause-shown g c = λ bytes opened.
     let parts = parts_view c.in_ok-parts.parts in
     let found = c.in_ok-parts.ensures bytes 0 opened in
     let items = bindings_left c.bindings.result in
-    let written = c.in_ok-of_list.ensures in (
+    let written = c.in_ok-write_items.ensures in (
       written.0,
       record {
         fields = fields_of_imports parts items;

@@ -14,7 +14,7 @@ use Rattle.machinfo.specs.Parts.{entry_view, uuid_rows_left}
 use Rattle.machinfo.specs.ProvidedSymbols.{provided_left}
 use Rattle.machinfo.specs.SectionRows.{sections_counted_left}
 use Rattle.machinfo.proofs.Facts as facts
-use Rattle.machinfo.proofs.Lists.{of_rows}
+use Rattle.machinfo.proofs.ListRows.{of_rows}
 use Rattle.machinfo.proofs.list.use_list.Goals as goal
 
 pub returns-in-Commands : goal.returns-in-Commands

@@ -10,14 +10,14 @@ returns g c = λ bytes opened.
       _,
       record {
         entry = entry.0;
-        entry_whole = c.in_ok-entry.entry.whole;
-        are_entry = (c.in_ok-entry.entry.left, entry.1);
+        entry_whole = c.in_ok-entry.entry;
+        are_entry = entry.1;
         segments = segments.0;
-        segments_whole = c.in_ok-segments.segments.whole;
-        are_segments = (c.in_ok-segments.segments.left, segments.1);
+        segments_whole = c.in_ok-segments.segments;
+        are_segments = segments.1;
         sections = sections.0;
-        sections_whole = c.in_ok-sections.sections.whole;
-        are_sections = (c.in_ok-sections.sections.left, sections.1);
+        sections_whole = c.in_ok-sections.sections;
+        are_sections = sections.1;
         is_text = refl;
         is_whole = refl;
       },

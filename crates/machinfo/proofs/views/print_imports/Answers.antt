@@ -10,12 +10,12 @@ returns-clause-shown g c = λ bytes opened.
     let parts = parts_view c.in_ok-parts.parts in
     let found = c.in_ok-parts.ensures bytes 0 opened in
     let items = bindings_left c.bindings.result in
-    let listed = c.in_ok-of_list.ensures in (
-      listed.0,
+    let listed = c.in_ok-print_listing.ensures in (
+      listed.text,
       record {
         fields = fields_of_imports parts items;
         has = import_fields_are c.args.image.now bytes 0 opened parts found.0 found.1 found.2 items c.bindings.ensures refl;
-        lines = listed.1;
+        lines = listed.lines;
       },
-      listed.2,
+      listed.written,
     )

@@ -5,13 +5,13 @@ use Rattle.mach_cli.proofs.Arrays.{one_list}
 use Rattle.mach_cli.specs.Fields.{fields_object}
 use Rattle.mach_cli.specs.JsonArrays.{AreArrayMembers, NamedRows}
 use Rattle.mach_cli.specs.Listings.{reported_by}
-use Rattle.machinfo.proofs.json.MembersListUse.of_list.Goals as goal
+use Rattle.machinfo.proofs.json.write_items.Goals as goal
 
 pub returns : goal.returns
 returns g c =
     let fields = g.L.ItemList.items_left c.args.list in
-    let left = c.args.self.now.left in
-    let list : NamedRows = record { name = c.args.self.now.name.now; rows = map (reported_by fields_object) fields } in
+    let left = c.args.left in
+    let list : NamedRows = record { name = c.args.name.now; rows = map (reported_by fields_object) fields } in
     let reported = c.in_ok-reported.reported in
     let old = g.O.Write.contents c.args.out.now in
     let middle = g.O.Write.contents c.print_member.new.out in
