@@ -55,7 +55,7 @@ pub fn print_decimal<O: Write>(number: u64, out: &mut O) -> io::Result<()>
 }
 
 /// Prints a number that may be negative, in decimal.
-pub(crate) fn print_signed<O: Write>(number: i128, out: &mut O) -> io::Result<()>
+pub fn print_signed<O: Write>(number: i128, out: &mut O) -> io::Result<()>
     ensures { OnOk result (Appends (O.contents out.old) (O.contents out.new) (signed_decimal number)) }
 {
     match u64::try_from(number) {
@@ -83,8 +83,8 @@ fn print_padded<O: Write>(digits: &[u8], width: usize, out: &mut O) -> io::Resul
     print_spaces(width.saturating_sub(digits.len()), out)
 }
 
-// Prints a number in hexadecimal, after `0x`, and spaces after it up to so many characters.
-pub(crate) fn print_wide_hexadecimal<O: Write>(
+/// Prints a number in hexadecimal, after `0x`, and spaces after it up to so many characters.
+pub fn print_wide_hexadecimal<O: Write>(
     number: u64,
     width: usize,
     out: &mut O,

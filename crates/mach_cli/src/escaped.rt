@@ -365,8 +365,8 @@ fn char_len(text: &str) -> usize
     text.chars().count()
 }
 
-// Prints a name on one line, and spaces after it up to so many characters. A name of visible ASCII has as many as bytes.
-pub(crate) fn print_wide_escaped<O: Write>(name: &str, width: usize, out: &mut O) -> io::Result<()>
+/// Prints a name on one line, and spaces after it up to so many characters. A name of visible ASCII has as many as bytes.
+pub fn print_wide_escaped<O: Write>(name: &str, width: usize, out: &mut O) -> io::Result<()>
     ensures { OnOk result (Appends (O.contents out.old) (O.contents out.new) (escaped_text name.now ++ spaces (width - length (chars name.now)))) }
 {
     if are_visible(Style::Name, name.as_bytes()) {

@@ -48,7 +48,13 @@ pub fn print_decimal<O: Write>(number: u64, out: &mut O) -> io::Result<()> {
 }
 
 /// Prints a number that may be negative, in decimal.
-pub(crate) fn print_signed<O: Write>(number: i128, out: &mut O) -> io::Result<()> {
+///
+/// <details><summary>Proved</summary>
+///
+/// - if `Ok`: `Appends (O.contents out.old) (O.contents out.new) (signed_decimal number)`
+///
+/// </details>
+pub fn print_signed<O: Write>(number: i128, out: &mut O) -> io::Result<()> {
     match u64::try_from(number) {
         Ok(magnitude) => print_decimal(magnitude, out),
         Err(_) => write!(out, "{number}"),
@@ -75,12 +81,14 @@ fn print_padded<O: Write>(digits: &[u8], width: usize, out: &mut O) -> io::Resul
     print_spaces(width.saturating_sub(digits.len()), out)
 }
 
-// Prints a number in hexadecimal, after `0x`, and spaces after it up to so many characters.
-pub(crate) fn print_wide_hexadecimal<O: Write>(
-    number: u64,
-    width: usize,
-    out: &mut O,
-) -> io::Result<()> {
+/// Prints a number in hexadecimal, after `0x`, and spaces after it up to so many characters.
+///
+/// <details><summary>Proved</summary>
+///
+/// - if `Ok`: `Appends (O.contents out.old) (O.contents out.new) (value_in_width width (hex number))`
+///
+/// </details>
+pub fn print_wide_hexadecimal<O: Write>(number: u64, width: usize, out: &mut O) -> io::Result<()> {
     let mut text = [b'0'; MOST];
     let start = digits_in(16, number, &mut text);
     out.write_all(b"0x")?;

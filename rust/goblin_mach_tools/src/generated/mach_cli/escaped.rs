@@ -298,12 +298,14 @@ fn char_len(text: &str) -> usize {
     text.chars().count()
 }
 
-// Prints a name on one line, and spaces after it up to so many characters. A name of visible ASCII has as many as bytes.
-pub(crate) fn print_wide_escaped<O: Write>(
-    name: &str,
-    width: usize,
-    out: &mut O,
-) -> io::Result<()> {
+/// Prints a name on one line, and spaces after it up to so many characters. A name of visible ASCII has as many as bytes.
+///
+/// <details><summary>Proved</summary>
+///
+/// - if `Ok`: `Appends (O.contents out.old) (O.contents out.new) (escaped_text name ++ spaces (width - length (chars name)))`
+///
+/// </details>
+pub fn print_wide_escaped<O: Write>(name: &str, width: usize, out: &mut O) -> io::Result<()> {
     if are_visible(Style::Name, name.as_bytes()) {
         out.write_all(name.as_bytes())?;
         return print_spaces(width.saturating_sub(name.len()), out);

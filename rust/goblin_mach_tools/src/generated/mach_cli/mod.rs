@@ -74,9 +74,13 @@ pub use crate::generated::mach_cli::call::Call;
 pub use crate::generated::mach_cli::color::Color;
 pub use crate::generated::mach_cli::complaint::{Complaint, Trouble};
 pub use crate::generated::mach_cli::cpu::Cpu;
-pub use crate::generated::mach_cli::digits::print_hexadecimal;
+pub use crate::generated::mach_cli::digits::{
+    print_hexadecimal, print_signed, print_wide_hexadecimal,
+};
 pub use crate::generated::mach_cli::directory_name::print_name;
-pub use crate::generated::mach_cli::escaped::{Escaped, EscapedBytes, print_bytes, print_escaped};
+pub use crate::generated::mach_cli::escaped::{
+    Escaped, EscapedBytes, print_bytes, print_escaped, print_wide_escaped,
+};
 pub use crate::generated::mach_cli::failure::ShowFailure;
 pub use crate::generated::mach_cli::fields::{
     Field, FieldsForm, Line, Object, Pairs, Value, word_if,
