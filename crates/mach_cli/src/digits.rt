@@ -84,11 +84,7 @@ fn print_padded<O: Write>(digits: &[u8], width: usize, out: &mut O) -> io::Resul
 }
 
 /// Prints a number in hexadecimal, after `0x`, and spaces after it up to so many characters.
-pub fn print_wide_hexadecimal<O: Write>(
-    number: u64,
-    width: usize,
-    out: &mut O,
-) -> io::Result<()>
+pub fn print_wide_hexadecimal<O: Write>(number: u64, width: usize, out: &mut O) -> io::Result<()>
     ensures { OnOk result (Appends (O.contents out.old) (O.contents out.new) (value_in_width width (hex number))) }
 {
     let mut text = [b'0'; MOST];
