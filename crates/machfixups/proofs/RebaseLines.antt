@@ -1,5 +1,5 @@
 -- The line of a rebase has the fields of a line alone.
-use Rattle.std.proofs.Common.{◌≡◌, ◌-◌, ◌++◌, ◌∷◌, [], ◌∙◌, ℕ, List, Option, Some, None, length, refl}
+use Rattle.std.proofs.Common.{◌≡◌, ◌-◌, ◌∷◌, [], ◌∙◌, ℕ, List, Option, Some, None, length, refl}
 use Rattle.std.specs.Prelude.{codes}
 use Rattle.std.specs.Str.{chars}
 use Rattle.mach_parts.specs.PointerSigning.{Auth}
