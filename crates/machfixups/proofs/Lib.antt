@@ -5,3 +5,5 @@ mod Nearest
 mod TargetSections
 mod Unseen
 mod RebaseLines
+mod BindLines
+mod InColumns

@@ -2,13 +2,14 @@
 -- line, and the parts that only a line has.
 use Rattle.std.specs.Prelude.{ℕ, ◌-◌, ℤ, pos, List, [], ◌∷◌, ◌++◌, codes, length, map, true, false, ◌||◌, Option, None, Some, Result, Ok, if◌then◌else◌}
 use Rattle.std.specs.Ordering.{int_eq}
+use Rattle.std.specs.Fmt.{signed_decimal}
 use Rattle.std.specs.Str.{chars}
 use Rattle.mach_base.specs.Answer.{◌>>=◌}
 use Rattle.mach_base.specs.Fault.{Fault}
 use Rattle.mach_parts.specs.PointerSigning.{Auth}
 use Rattle.mach_cli.specs.Fields.{FieldView, field_of, flags, hex, line_field, number, object_field, optional_text, signed, text, whether}
 use Rattle.mach_cli.specs.Escapes.{escaped_text}
-use Rattle.mach_cli.specs.Fields.{fields_line, wide_field}
+use Rattle.mach_cli.specs.Fields.{fields_line, value_in_width, wide_field}
 use Rattle.mach_cli.specs.Listings.{hex_text, reported_by}
 use Rattle.mach_cli.specs.Signing.{diverse_by, diversity_by, has_auth, key_by, rebase_type}
 use Rattle.mach_dyld.specs.declared.rebases.RebaseKind.{RebaseKind}
@@ -151,17 +152,39 @@ rebase_fields p target symbol kind auth raw =
     ∷ target_section target
     ∷ []
 
--- the same that a line has, in the order of their columns
-abbrev pub rebase_line : (place target : PointerPlace) → List FieldView
-rebase_line p target =
-    address_field p
-    ∷ segment_field p
-    ∷ section_field p
-    ∷ kind_field (codes "kind") (codes "rebase")
-    ∷ target_segment target
-    ∷ target_section target
-    ∷ field_of (codes "target") (hex target.address) 6
-    ∷ []
+-- the place of a row, as a line has it
+abbrev pub row_place_text : PointerPlace → List ℕ
+row_place_text p =
+    value_in_width 11 (hex p.address)
+    ++ (codes " " ++ (value_in_width 12 (text (name_or_dash p.segment)) ++ (codes " " ++ value_in_width 16 (text (name_or_dash p.section)))))
+
+-- the target of a rebase, as a line has it
+abbrev pub rebase_target_text : PointerPlace → List ℕ
+rebase_target_text target =
+    value_in_width 0 (text (name_or_dash target.segment))
+    ++ (codes " " ++ (value_in_width (19 - length (chars (name_or_dash target.segment))) (text (name_or_dash target.section))
+    ++ (codes " " ++ value_in_width 0 (hex target.address))))
+
+-- the line of a rebase up to the target
+abbrev pub rebase_text : (place target : PointerPlace) → List ℕ
+rebase_text p target = row_place_text p ++ (codes " rebase " ++ rebase_target_text target)
+
+-- from which image a bind takes its symbol, as a line has it
+abbrev pub from_text : Option (List ℕ) → (ordinal : ℤ) → List ℕ
+from_text (Some name) ordinal = value_in_width 20 (text name)
+from_text None ordinal = signed_decimal ordinal
+
+-- what a line has after the name of a bind
+abbrev pub bind_ending : PointerBind → (raw : Option ℕ) → List FieldView
+bind_ending b raw = addend_field b.addend ∷ bind_flags b ∷ raw_field raw ∷ []
+
+-- the name of a bind, with the image before it, and what a line has after it
+abbrev pub bind_name_text : PointerBind → (raw : Option ℕ) → List ℕ
+bind_name_text b raw = from_text b.from b.ordinal ++ (codes " " ++ (value_in_width 0 (text b.name) ++ fields_line (bind_ending b raw)))
+
+-- the line of a bind
+abbrev pub bind_text : PointerPlace → PointerBind → (raw : Option ℕ) → List ℕ
+bind_text p b raw = row_place_text p ++ (codes " bind   " ++ bind_name_text b raw)
 
 -- what a line has after the symbol at the target
 abbrev pub ending_fields : RebaseKind → Option Auth → (raw : Option ℕ) → List FieldView

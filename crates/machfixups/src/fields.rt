@@ -8,7 +8,8 @@ ghost use Rattle.mach_cli.specs.Fields.{field_view, fields_line, value_view};
 ghost use Rattle.mach_dyld.specs.Exports.{text_in};
 ghost use Rattle.machfixups.specs.RowFields.{addend_field, address_field, bind_fields, bind_flags, dash_field, from_field, kind_field, name_or_dash};
 ghost use Rattle.machfixups.specs.RowFields.{rebase_fields, rebase_word, section_field, segment_field, signed_flags, strong_fields, value_fields};
-ghost use Rattle.machfixups.specs.RowFields.{distance_field, ending_fields, pointer_fields, pointer_line, raw_field, raw_member, rebase_line, symbol_field};
+ghost use Rattle.machfixups.specs.RowFields.{bind_ending, bind_name_text, bind_text, distance_field, ending_fields, from_text, pointer_fields, pointer_line};
+ghost use Rattle.machfixups.specs.RowFields.{raw_field, raw_member, rebase_target_text, rebase_text, row_place_text, symbol_field};
 ghost use Rattle.machfixups.specs.RowFields.{symbol_text, target_section, target_segment, weak_fields};
 ghost use Rattle.machfixups.specs.Rows.{bind_view, place_view, row_view};
 ghost use Rattle.machfixups.specs.TargetSymbols.{target_symbol_option_view};
@@ -19,7 +20,7 @@ use goblin_mach::RebaseKind;
 use goblin_mach::chained_fixups::PointerAuth;
 use mach_cli::{
     Field, FieldsForm, Line, Value, diverse_by, diversity_by, has_auth, key_by, print_escaped,
-    print_hexadecimal, rebase_type,
+    print_hexadecimal, print_signed, print_wide_escaped, print_wide_hexadecimal, rebase_type,
 };
 use std::io;
 use std::io::Write;
@@ -276,21 +277,6 @@ fn rebase_fields<'a>(
     ]
 }
 
-// Returns the fields of a rebase that a line has up to the target, in the order of their columns.
-fn rebase_line<'a>(place: &Location<'a>, target: &Location<'a>) -> [Field<'a>; 7]
-    ensures { map field_view result ≡ rebase_line (place_view place.now) (place_view target.now) }
-{
-    [
-        address_field(place),
-        segment_field(place),
-        section_field(place),
-        kind_field("kind", "rebase"),
-        target_segment(target),
-        target_section(target),
-        Field::new("target", Value::Hex(target.address), 6),
-    ]
-}
-
 // Returns the fields of a rebase that a line has after the symbol.
 fn ending_fields(
     kind: RebaseKind,
@@ -357,6 +343,77 @@ pub fn write_row<F: FieldsForm, O: Write>(row: &Row<'_, '_>, out: &mut O) -> io:
     }
 }
 
+// Writes the place of a row.
+fn write_place<O: Write>(place: &Location<'_>, out: &mut O) -> io::Result<()>
+    ensures { OnOk result (Appends (O.contents out.old) (O.contents out.new) (row_place_text (place_view place.now))) }
+{
+    print_wide_hexadecimal(place.address, 11, out)?;
+    out.write_all(b" ")?;
+    print_wide_escaped(name_or_dash(place.segment), 12, out)?;
+    out.write_all(b" ")?;
+    print_wide_escaped(name_or_dash(place.section), 16, out)
+}
+
+// Writes the target of a rebase. Both names have 20 characters together, if they aren't longer.
+fn write_target<O: Write>(target: &Location<'_>, out: &mut O) -> io::Result<()>
+    ensures { OnOk result (Appends (O.contents out.old) (O.contents out.new) (rebase_target_text (place_view target.now))) }
+{
+    let segment = name_or_dash(target.segment);
+    let width = width_after(segment);
+    print_wide_escaped(segment, 0, out)?;
+    out.write_all(b" ")?;
+    print_wide_escaped(name_or_dash(target.section), width, out)?;
+    out.write_all(b" ")?;
+    print_wide_hexadecimal(target.address, 0, out)
+}
+
+// Writes the line of a rebase up to the target.
+fn write_rebase_front<O: Write>(
+    place: &Location<'_>,
+    target: &Location<'_>,
+    out: &mut O,
+) -> io::Result<()>
+    ensures { OnOk result (Appends (O.contents out.old) (O.contents out.new) (rebase_text (place_view place.now) (place_view target.now))) }
+{
+    write_place(place, out)?;
+    out.write_all(b" rebase ")?;
+    write_target(target, out)
+}
+
+// Writes the image from which a bind takes its symbol.
+fn write_from<O: Write>(bind: &Bind<'_>, out: &mut O) -> io::Result<()>
+    ensures { let seen = bind_view bind.now in OnOk result (Appends (O.contents out.old) (O.contents out.new) (from_text seen.from seen.ordinal)) }
+{
+    match bind.from {
+        Some(name) => print_wide_escaped(name, 20, out),
+        None => print_signed(bind.ordinal, out),
+    }
+}
+
+// Returns the fields of a bind that a line has after the name.
+fn bind_ending(bind: &Bind<'_>, raw: Option<u64>) -> [Field<'static>; 3]
+    ensures { map field_view result ≡ bind_ending (bind_view bind.now) raw }
+{
+    [addend_field(bind.addend), bind_flags(bind), raw_field(raw)]
+}
+
+// Whether a line of a bind has a field after the name.
+fn has_bind_ending(bind: &Bind<'_>, raw: Option<u64>) -> bool
+    ensures { result ≡ false → fields_line (bind_ending (bind_view bind.now) raw) ≡ [] }
+{
+    bind.addend != 0 || bind.is_weak || bind.is_lazy || has_auth(bind.auth) || raw.is_some()
+}
+
+// Writes what a line has after the name of a bind.
+fn write_bind_ending<O: Write>(bind: &Bind<'_>, raw: Option<u64>, out: &mut O) -> io::Result<()>
+    ensures { OnOk result (Appends (O.contents out.old) (O.contents out.new) (fields_line (bind_ending (bind_view bind.now) raw))) }
+{
+    if !has_bind_ending(bind, raw) {
+        return Ok(());
+    }
+    Line::write(&bind_ending(bind, raw), out)
+}
+
 // Writes the symbol at a target and how far the target is above it, after a space, if there is one.
 fn write_symbol<O: Write>(symbol: &Option<TargetSymbol<'_>>, out: &mut O) -> io::Result<()>
     ensures { OnOk result (Appends (O.contents out.old) (O.contents out.new) (symbol_text (target_symbol_option_view symbol.now))) }
@@ -401,7 +458,7 @@ fn write_rebase_ending<O: Write>(
     Line::write(&ending_fields(kind, auth, raw), out)
 }
 
-// Writes the line of a rebase. Its fields are those of a line alone, in the order of their columns.
+// Writes the line of a rebase.
 fn write_rebase<O: Write>(
     place: &Location<'_>,
     target: &Location<'_>,
@@ -415,8 +472,32 @@ fn write_rebase<O: Write>(
         (fields_line (rebase_fields (place_view place.now) (place_view target.now) seen kind (auth_option_view auth) raw)
         ++ (symbol_text seen ++ fields_line (ending_fields kind (auth_option_view auth) raw)))) }
 {
-    Line::write(&rebase_line(place, target), out)?;
+    write_rebase_front(place, target, out)?;
     write_rebase_ending(symbol, kind, auth, raw, out)
+}
+
+// Writes the name of a bind, with the image before it, and what a line has after it.
+fn write_bind_name<O: Write>(bind: &Bind<'_>, raw: Option<u64>, out: &mut O) -> io::Result<()>
+    ensures { OnOk result (Appends (O.contents out.old) (O.contents out.new) (bind_name_text (bind_view bind.now) raw)) }
+{
+    write_from(bind, out)?;
+    out.write_all(b" ")?;
+    print_wide_escaped(bind.name, 0, out)?;
+    write_bind_ending(bind, raw, out)
+}
+
+// Writes the line of a bind.
+fn write_bind<O: Write>(
+    place: &Location<'_>,
+    bind: &Bind<'_>,
+    raw: Option<u64>,
+    out: &mut O,
+) -> io::Result<()>
+    ensures { OnOk result (Appends (O.contents out.old) (O.contents out.new) (bind_text (place_view place.now) (bind_view bind.now) raw)) }
+{
+    write_place(place, out)?;
+    out.write_all(b" bind   ")?;
+    write_bind_name(bind, raw, out)
 }
 
 /// Writes the line of a row, without its end.
@@ -431,7 +512,7 @@ pub fn write_line<O: Write>(row: &Row<'_, '_>, out: &mut O) -> io::Result<()>
                 kind,
                 auth,
             } => write_rebase(place, target, symbol, *kind, *auth, *raw, out),
-            Action::Bind(_) => write_row::<Line, O>(row, out),
+            Action::Bind(bind) => write_bind(place, bind, *raw, out),
             Action::Weak(_) => write_row::<Line, O>(row, out),
             Action::Value(_) => write_row::<Line, O>(row, out),
         },

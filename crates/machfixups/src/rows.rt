@@ -162,13 +162,15 @@ impl<'p, 'a, A: Allocator> Iterator for Rows<'p, 'a, '_, A> {
 
     fn next(&mut self) -> Option<Result<Row<'p, 'a>>> {
         let (parts, symbols) = (self.parts, self.symbols);
-        let (libs, table, source) = (self.libs, self.table, self.source);
         match self.items.next_row(parts, symbols) {
             Some(row) => Some(row),
-            None => match self.fixups.next() {
-                Some(item) => Some(fixup_row(parts, symbols, libs, &table, &source, item)),
-                None => None,
-            },
+            None => {
+                let (libs, table, source) = (self.libs, self.table, self.source);
+                match self.fixups.next() {
+                    Some(item) => Some(fixup_row(parts, symbols, libs, &table, &source, item)),
+                    None => None,
+                }
+            }
         }
     }
 }

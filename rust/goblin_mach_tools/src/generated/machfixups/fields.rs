@@ -4,7 +4,7 @@
 
 use crate::generated::mach_cli::{
     Field, FieldsForm, Line, Value, diverse_by, diversity_by, has_auth, key_by, print_escaped,
-    print_hexadecimal, rebase_type,
+    print_hexadecimal, print_signed, print_wide_escaped, print_wide_hexadecimal, rebase_type,
 };
 use crate::generated::machfixups::row::{Action, Bind, Location, Row};
 use crate::generated::machfixups::target_symbols::TargetSymbol;
@@ -220,19 +220,6 @@ fn rebase_fields<'a>(
     ]
 }
 
-// Returns the fields of a rebase that a line has up to the target, in the order of their columns.
-fn rebase_line<'a>(place: &Location<'a>, target: &Location<'a>) -> [Field<'a>; 7] {
-    [
-        address_field(place),
-        segment_field(place),
-        section_field(place),
-        kind_field("kind", "rebase"),
-        target_segment(target),
-        target_section(target),
-        Field::new("target", Value::Hex(target.address), 6),
-    ]
-}
-
 // Returns the fields of a rebase that a line has after the symbol.
 fn ending_fields(
     kind: RebaseKind,
@@ -297,6 +284,63 @@ pub fn write_row<F: FieldsForm, O: Write>(row: &Row<'_, '_>, out: &mut O) -> io:
     }
 }
 
+// Writes the place of a row.
+fn write_place<O: Write>(place: &Location<'_>, out: &mut O) -> io::Result<()> {
+    print_wide_hexadecimal(place.address, 11, out)?;
+    out.write_all(b" ")?;
+    print_wide_escaped(name_or_dash(place.segment), 12, out)?;
+    out.write_all(b" ")?;
+    print_wide_escaped(name_or_dash(place.section), 16, out)
+}
+
+// Writes the target of a rebase. Both names have 20 characters together, if they aren't longer.
+fn write_target<O: Write>(target: &Location<'_>, out: &mut O) -> io::Result<()> {
+    let segment = name_or_dash(target.segment);
+    let width = width_after(segment);
+    print_wide_escaped(segment, 0, out)?;
+    out.write_all(b" ")?;
+    print_wide_escaped(name_or_dash(target.section), width, out)?;
+    out.write_all(b" ")?;
+    print_wide_hexadecimal(target.address, 0, out)
+}
+
+// Writes the line of a rebase up to the target.
+fn write_rebase_front<O: Write>(
+    place: &Location<'_>,
+    target: &Location<'_>,
+    out: &mut O,
+) -> io::Result<()> {
+    write_place(place, out)?;
+    out.write_all(b" rebase ")?;
+    write_target(target, out)
+}
+
+// Writes the image from which a bind takes its symbol.
+fn write_from<O: Write>(bind: &Bind<'_>, out: &mut O) -> io::Result<()> {
+    match bind.from {
+        Some(name) => print_wide_escaped(name, 20, out),
+        None => print_signed(bind.ordinal, out),
+    }
+}
+
+// Returns the fields of a bind that a line has after the name.
+fn bind_ending(bind: &Bind<'_>, raw: Option<u64>) -> [Field<'static>; 3] {
+    [addend_field(bind.addend), bind_flags(bind), raw_field(raw)]
+}
+
+// Whether a line of a bind has a field after the name.
+fn has_bind_ending(bind: &Bind<'_>, raw: Option<u64>) -> bool {
+    bind.addend != 0 || bind.is_weak || bind.is_lazy || has_auth(bind.auth) || raw.is_some()
+}
+
+// Writes what a line has after the name of a bind.
+fn write_bind_ending<O: Write>(bind: &Bind<'_>, raw: Option<u64>, out: &mut O) -> io::Result<()> {
+    if !has_bind_ending(bind, raw) {
+        return Ok(());
+    }
+    Line::write(&bind_ending(bind, raw), out)
+}
+
 // Writes the symbol at a target and how far the target is above it, after a space, if there is one.
 fn write_symbol<O: Write>(symbol: &Option<TargetSymbol<'_>>, out: &mut O) -> io::Result<()> {
     match symbol {
@@ -334,7 +378,7 @@ fn write_rebase_ending<O: Write>(
     Line::write(&ending_fields(kind, auth, raw), out)
 }
 
-// Writes the line of a rebase. Its fields are those of a line alone, in the order of their columns.
+// Writes the line of a rebase.
 fn write_rebase<O: Write>(
     place: &Location<'_>,
     target: &Location<'_>,
@@ -344,8 +388,28 @@ fn write_rebase<O: Write>(
     raw: Option<u64>,
     out: &mut O,
 ) -> io::Result<()> {
-    Line::write(&rebase_line(place, target), out)?;
+    write_rebase_front(place, target, out)?;
     write_rebase_ending(symbol, kind, auth, raw, out)
+}
+
+// Writes the name of a bind, with the image before it, and what a line has after it.
+fn write_bind_name<O: Write>(bind: &Bind<'_>, raw: Option<u64>, out: &mut O) -> io::Result<()> {
+    write_from(bind, out)?;
+    out.write_all(b" ")?;
+    print_wide_escaped(bind.name, 0, out)?;
+    write_bind_ending(bind, raw, out)
+}
+
+// Writes the line of a bind.
+fn write_bind<O: Write>(
+    place: &Location<'_>,
+    bind: &Bind<'_>,
+    raw: Option<u64>,
+    out: &mut O,
+) -> io::Result<()> {
+    write_place(place, out)?;
+    out.write_all(b" bind   ")?;
+    write_bind_name(bind, raw, out)
 }
 
 /// Writes the line of a row, without its end.
@@ -364,7 +428,7 @@ pub fn write_line<O: Write>(row: &Row<'_, '_>, out: &mut O) -> io::Result<()> {
                 kind,
                 auth,
             } => write_rebase(place, target, symbol, *kind, *auth, *raw, out),
-            Action::Bind(_) => write_row::<Line, O>(row, out),
+            Action::Bind(bind) => write_bind(place, bind, *raw, out),
             Action::Weak(_) => write_row::<Line, O>(row, out),
             Action::Value(_) => write_row::<Line, O>(row, out),
         },
