@@ -1,5 +1,5 @@
 -- The counts of one more list.
-use Rattle.std.proofs.Common.{◌≡◌, ◌++◌, ◌∷◌, [], ℕ, ◌+◌, ◌<◌, List, Bool, sym, subst, length, take, get_or}
+use Rattle.std.proofs.Common.{◌++◌, ℕ, ◌+◌, ◌<◌, List, Bool, sym, subst, length, take, get_or}
 use Rattle.std.specs.Prelude.{◌&&◌}
 use Rattle.std.proofs.lemmas.List.{take_more}
 use Rattle.machinfo.specs.Counts.{AreCounts, IsCount, counts_more}

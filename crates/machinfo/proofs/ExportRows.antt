@@ -1,5 +1,5 @@
 -- The rows of exports that a walk meets, written one after the other.
-use Rattle.std.proofs.Common.{◌≡◌, ◌≤◌, ◌<◌, ◌+◌, ◌-◌, ◌++◌, ◌∷◌, [], ◌∙◌, ℕ, List, Option, Some, Result, Ok, Err, Bool, true, false, arith, ap, length}
+use Rattle.std.proofs.Common.{◌≡◌, ◌≤◌, ◌<◌, ◌-◌, ◌++◌, ◌∷◌, [], ◌∙◌, ℕ, List, Option, Some, Result, Ok, Err, Bool, true, false, arith, ap, length}
 use Rattle.std.proofs.Common.{inl, inr, map, refl, subst, sym}
 use Rattle.std.specs.Borrow.{Bor}
 use Rattle.std.specs.Prelude.{◌&&◌, codes}

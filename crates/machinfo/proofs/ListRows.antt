@@ -1,5 +1,5 @@
 -- The rows of a list: its next one, and all by the image that was opened.
-use Rattle.std.proofs.Common.{◌≡◌, ◌∙◌, [], ◌∷◌, ℕ, List, Option, Some, None, Result, Ok, Err, ap, map, refl}
+use Rattle.std.proofs.Common.{◌≡◌, ◌∙◌, [], ◌∷◌, ℕ, List, Option, Some, None, Result, Ok, Err, ap, refl}
 use Rattle.std.specs.Prelude.{IfOk, MatchOption}
 use Rattle.mach_base.specs.Fault.{Fault}
 use Rattle.mach_base.specs.Items.{read_as}

@@ -1,5 +1,5 @@
 -- The lists of an image that words select, as rows of fields.
-use Rattle.std.specs.Prelude.{◌≡◌, ℕ, ◌∷◌, ◌-◌, List, [], length, map, codes, option_map, Option, Result, Ok}
+use Rattle.std.specs.Prelude.{◌≡◌, ℕ, ◌∷◌, ◌-◌, List, [], length, map, codes, Option, Result, Ok}
 use Rattle.std.specs.List.{filter_map}
 use Rattle.mach_base.specs.Fault.{Fault}
 use Rattle.mach_base.specs.Items.{items_in_bounds}
@@ -18,7 +18,7 @@ use Rattle.machinfo.specs.NumberedNotes.{HasNumberedNotes}
 use Rattle.machinfo.specs.PartFields.{entry_part_fields, header_part_fields, one_row, rpath_rows_from, section_part_fields, segment_rows_from, uuid_part_fields}
 use Rattle.machinfo.specs.Parts.{EntryView, IsEntryRow, uuid_row_by}
 use Rattle.machinfo.specs.ProvidedSymbols.{HasProvidedSymbols, symbols_past_in}
-use Rattle.machinfo.specs.RowFields.{binding_fields, data_fields, fields_read, finding_fields, indirect_fields, library_fields, note_fields, option_fields}
+use Rattle.machinfo.specs.RowFields.{data_fields, fields_read, finding_fields, indirect_fields, library_fields, note_fields, option_fields}
 use Rattle.machinfo.specs.RowFields.{provided_fields, rebase_row_fields, slot_fields, start_fields, tool_fields, weak_row_fields}
 use Rattle.machinfo.specs.SectionRows.{section_rows_in, sections_past}
 use Rattle.machinfo.specs.declared.word.Word.{Word}

@@ -1,6 +1,6 @@
 -- The segments of an image and their sections, as they are printed.
-use Rattle.std.specs.Prelude.{◌==◌, ◌-◌, ℕ, List, ◌++◌, codes, length, map, bit_and, Option, Some, None}
-use Rattle.std.specs.Prelude.{Result, Ok, if◌then◌else◌}
+use Rattle.std.specs.Prelude.{◌-◌, ℕ, List, ◌++◌, codes, length, map}
+use Rattle.std.specs.Prelude.{Result, Ok}
 use Rattle.std.specs.Fmt.{decimal}
 use Rattle.mach_base.specs.Answer.{◌>>=◌}
 use Rattle.mach_base.specs.Fault.{Fault}

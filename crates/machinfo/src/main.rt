@@ -143,7 +143,8 @@ fn show_call<W: Write + Drop>(
     ensures lines { is_json call.now.format ≡ false → IfOk result (ShowsInfoLines W.contents call.now out.old out.new) }
     ensures objects { is_json call.now.format ≡ true → IfOk result (ShowsInfoObjects W.contents call.now out.old out.new) }
 {
-    let selection = match selection_of(call.address, &call.words) {
+    let words = call.words.as_slice();
+    let selection = match selection_of(call.address, words) {
         Ok(selection) => selection,
         Err(misuse) => return Err(PROGRAM.bad_usage(rt, misuse)),
     };

@@ -12,9 +12,9 @@ words-init g c = λ bytes opened. ([], no_counts, Appends-none (g.O.Write.conten
 pub words-preserved : goal.words-preserved
 words-preserved g c = λ bytes opened.
     let before = c.words.invariant bytes opened in
-    let one = c.in_ok-use_list.ensures bytes opened in (
+    let one = c.in_ok-whole.ensures bytes opened in (
       _,
-      one_more_count c.args.form c.args.limit bytes c.args.words.now c.words.word-index _ before.0 one.0 c.words.whole c.in_ok-use_list.field-0.whole
+      one_more_count c.args.form c.args.limit bytes c.args.words.now c.words.word-index _ before.0 one.0 c.words.whole c.in_ok-whole.field-0.whole
           c.words-test.true before.1 one.1,
       Appends-both _ _ _ before.0 _ before.2 one.2,
     )

@@ -1,4 +1,4 @@
-use Rattle.std.proofs.Common.{[], ◌∷◌, ℕ, List, map, refl, subst, sym}
+use Rattle.std.proofs.Common.{[], ◌∷◌, ℕ, map, refl, subst, sym}
 use Rattle.mach_base.proofs.Written.{Appends-both}
 use Rattle.mach_dyld.proofs.LookUps.{ok_in}
 use Rattle.mach_cli.proofs.Arrays.{one_list}

@@ -1,4 +1,4 @@
-use Rattle.std.proofs.Common.{option_map, subst}
+use Rattle.std.proofs.Common.{option_map}
 use Rattle.goblin_mach.specs.Libraries.{libraries_left}
 use Rattle.goblin_mach.specs.RebasesLeft.{rebases_left}
 use Rattle.mach_parts.specs.SlotViews.{indirect_left}
@@ -12,7 +12,9 @@ use Rattle.machinfo.specs.NumberedNotes.{notes_numbered_left}
 use Rattle.machinfo.specs.PartFields.{paths_numbered_left, segments_numbered_left}
 use Rattle.machinfo.specs.Parts.{entry_view, uuid_rows_left}
 use Rattle.machinfo.specs.ProvidedSymbols.{provided_left}
+use Rattle.machinfo.specs.RowFields.{data_fields, fields_read, indirect_fields, provided_fields}
 use Rattle.machinfo.specs.SectionRows.{sections_counted_left}
+use Rattle.machinfo.specs.declared.word.Word.TheVariants as words
 use Rattle.machinfo.proofs.Facts as facts
 use Rattle.machinfo.proofs.ListRows.{of_rows}
 use Rattle.machinfo.proofs.list.use_list.Goals as goal
@@ -30,10 +32,18 @@ pub returns-in-Slots : goal.returns-in-Slots
 returns-in-Slots g c = rw c.in-Slots.is (λ bytes p. of_rows _ bytes _ _ _ _ _ (facts.slot_rows c.args.image.now bytes 0 p (slots_left c.symbol_slots.result) c.symbol_slots.ensures) c.of_list-in-Slots.ensures)
 
 pub returns-in-Indirect : goal.returns-in-Indirect
-returns-in-Indirect g c = ?
+returns-in-Indirect g c =
+    let list = c.indirect_symbols_in_bounds-past in
+    rw c.in-Indirect.is (λ bytes p. of_rows words.Indirect bytes (fields_read indirect_fields (indirect_left list.result.0.0)) list.result.1 _ _ _
+    (rw (list.ensures.left, list.ensures.past)
+    (facts.indirect_rows c.args.image.now bytes 0 p (indirect_left c.indirect_symbols.result) c.indirect_symbols.ensures)) c.of_list-in-Indirect.ensures)
 
 pub returns-in-Data : goal.returns-in-Data
-returns-in-Data g c = ?
+returns-in-Data g c =
+    let list = c.data_in_bounds-past in
+    rw c.in-Data.is (λ bytes p. of_rows words.Data bytes (fields_read data_fields (data_in_code_left list.result.0.0)) list.result.1 _ _ _
+    (rw (list.ensures.left, list.ensures.past)
+    (facts.data_rows c.args.image.now bytes 0 p (data_in_code_left c.data_in_code.result) c.data_in_code.ensures)) c.of_list-in-Data.ensures)
 
 pub returns-in-Options : goal.returns-in-Options
 returns-in-Options g c = rw c.in-Options.is (λ bytes p. of_rows _ bytes _ _ _ _ _ (facts.option_rows c.args.image.now bytes 0 p (options_left c.linker_options.result) c.linker_options.ensures) c.of_list-in-Options.ensures)
@@ -45,7 +55,11 @@ pub returns-in-Notes : goal.returns-in-Notes
 returns-in-Notes g c = rw c.in-Notes.is (λ bytes p. of_rows _ bytes _ _ _ _ _ (facts.note_rows c.args.image.now bytes 0 p (notes_numbered_left c.of-in-Notes.result) c.of-in-Notes.ensures) c.of_list-in-Notes.ensures)
 
 pub returns-in-Providers : goal.returns-in-Providers
-returns-in-Providers g c = ?
+returns-in-Providers g c =
+    let list = c.of-past in
+    rw c.in-Providers.is (λ bytes p. of_rows words.Providers bytes (fields_read provided_fields (provided_left list.result.0)) list.result.1 _ _ _
+    (rw list.ensures.past (facts.provider_rows c.args.image.now bytes 0 p (provided_left list.result.0) list.ensures.left))
+    c.of_list-in-Providers.ensures)
 
 pub returns-in-Libraries : goal.returns-in-Libraries
 returns-in-Libraries g c = rw c.in-Libraries.is (λ bytes p. of_rows _ bytes _ _ _ _ _ (facts.library_rows c.args.image.now bytes 0 p (libraries_left c.libraries.result) c.libraries.ensures) c.of_list-in-Libraries.ensures)
@@ -60,7 +74,11 @@ pub returns-in-Segments : goal.returns-in-Segments
 returns-in-Segments g c = rw c.in-Segments.is (λ bytes p. of_rows _ bytes _ _ _ _ _ (facts.segment_rows c.args.image.now bytes 0 p (segments_numbered_left c.of-in-Segments.result) c.of-in-Segments.ensures) c.of_list-in-Segments.ensures)
 
 pub returns-in-Sections : goal.returns-in-Sections
-returns-in-Sections g c = ?
+returns-in-Sections g c =
+    let list = c.of-past-in-Sections in
+    rw c.in-Sections.is (λ bytes p. of_rows _ bytes _ _ _ _ _
+    (facts.section_rows c.args.image.now bytes 0 p (sections_counted_left list.result.0) list.result.1 list.ensures.left list.ensures.past)
+    c.of_list-in-Sections.ensures)
 
 pub returns-in-Uuid : goal.returns-in-Uuid
 returns-in-Uuid g c = rw c.in-Uuid.is (λ bytes p. of_rows _ bytes _ _ _ _ _ (facts.uuid_rows c.args.image.now bytes 0 p (uuid_rows_left c.of-in-Uuid.result) c.of-in-Uuid.ensures) c.of_list-in-Uuid.ensures)

@@ -1,4 +1,4 @@
-use Rattle.machinfo.proofs.fields.write_indirect.Goals as goal
+use Rattle.machinfo.proofs.lists.write_indirect.Goals as goal
 
 pub returns-in-Absolute : goal.returns-in-Absolute
 returns-in-Absolute g c = rw c.in-Absolute.is (rw c.new-in-Absolute.ensures at c.write-in-Absolute.ensures)

@@ -1,5 +1,4 @@
-use Rattle.std.proofs.Common.{◌≡◌, Bool, refl}
-use Rattle.std.specs.Prelude.{◌&&◌, ◌==◌, not}
+use Rattle.std.proofs.Common.{◌≡◌, refl}
 use Rattle.goblin_mach.specs.ImageSlots.{symbol_table_view}
 use Rattle.goblin_mach.specs.OpenImage.{commands_view}
 use Rattle.mach_audit.specs.States.{state_of_commands}

@@ -1,10 +1,10 @@
-use Rattle.std.proofs.Common.{◌∙◌, ℕ, List, Bor, Result, Ok, ap, refl, subst}
+use Rattle.std.proofs.Common.{◌∙◌, ℕ, List, Bor, Result, Ok, refl, subst}
 use Rattle.std.specs.Prelude.{map}
 use Rattle.mach_base.specs.Answer.{◌>>=◌}
 use Rattle.mach_base.specs.Fault.{Fault}
 use Rattle.mach_base.specs.Text.{texts}
 use Rattle.mach_records.specs.declared.versions.BuildToolVersion.{BuildToolVersion}
-use Rattle.mach_parts.specs.Segment.{SegmentView, segment_view}
+use Rattle.mach_parts.specs.Segment.{segment_view}
 use Rattle.mach_parts.specs.declared.segment.Segment.{Segment}
 use Rattle.goblin_mach.specs.Libraries.{LibraryView}
 use Rattle.mach_audit.specs.FactRows.{FactView, library_fact, path_fact, tool_fact}

@@ -1,4 +1,4 @@
-use Rattle.std.proofs.Common.{◌≡◌, ◌∙◌, ℕ, ap, refl, take}
+use Rattle.std.proofs.Common.{◌∙◌, ℕ, ap, refl, take}
 use Rattle.std.proofs.lemmas.List.{take_min}
 use Rattle.machinfo.proofs.SegmentStatus.{all_of_them, one_more}
 use Rattle.machinfo.proofs.Some.{some, some_more}
