@@ -139,7 +139,8 @@ module _ {A : Type 0} (m : MachO A) (bytes : List ℕ) (o : ℕ) (p : IsImage by
       let point : EntryPoint = record { address = m.entry; old_style = m.old_style_entry } in (
         point,
         ((entry_point_is m).strict bytes o p point).1 refl,
-        of_parts (λ f. (seen : Option EntryView) × IsEntryRow m.entry f seen × (one_row entry_part_fields row ≡ one_row entry_part_fields seen)) (row, is, refl),
+        of_parts (λ f. (seen : Option EntryView) × IsEntryRow m.entry f seen × (one_row entry_part_fields row ≡ one_row entry_part_fields seen))
+            (row, is, refl),
         refl,
       )
 

@@ -26,14 +26,16 @@ pub record AreInfoFiles {A : Type 0} (call : Call A SharedOnly) (choice : Option
   pub objects : s.objects ≡ record { choice = choice }
 
 -- A call shows what its arguments select, of their files and of those that it names in other ways, as lines.
-abbrev pub ShowsInfoLines : {W A B : Type 0} → (contents : W → Option (List ℕ)) → Call A SharedOnly → (old new : BufWriter (Titled W) B) → (worst : ℕ) → Type 0
+abbrev pub ShowsInfoLines : {W A B : Type 0} → (contents : W → Option (List ℕ)) → Call A SharedOnly → (old new : BufWriter (Titled W) B)
+    → (worst : ℕ) → Type 0
 ShowsInfoLines contents call old new worst =
     (choice : Option Choice) × (files : List (Bor (List ℕ))) × (selected call.address call.words.items ≡ Some (choice, files))
     × (s : ImageFiles InfoLines InfoObjects) × AreInfoFiles call choice s
     × ShowsText s s.program.name.now (AreInfoLines s.lines.choice) contents files call.others old new worst
 
 -- the same as objects
-abbrev pub ShowsInfoObjects : {W A B : Type 0} → (contents : W → Option (List ℕ)) → Call A SharedOnly → (old new : BufWriter (Titled W) B) → (worst : ℕ) → Type 0
+abbrev pub ShowsInfoObjects : {W A B : Type 0} → (contents : W → Option (List ℕ)) → Call A SharedOnly → (old new : BufWriter (Titled W) B)
+    → (worst : ℕ) → Type 0
 ShowsInfoObjects contents call old new worst =
     (choice : Option Choice) × (files : List (Bor (List ℕ))) × (selected call.address call.words.items ≡ Some (choice, files))
     × (s : ImageFiles InfoLines InfoObjects) × AreInfoFiles call choice s

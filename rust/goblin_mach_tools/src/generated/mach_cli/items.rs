@@ -30,28 +30,16 @@ pub trait ItemList {
     fn write_item<F: FieldsForm, O: Write>(item: &Self::Item, out: &mut O) -> io::Result<()>;
 }
 
-/// How many more items a list claims, with records that begin past the end of the bytes.
-#[derive(Clone, Copy)]
-pub struct PastTheEnd {
-    /// Their number.
-    pub count: usize,
-    /// What such items are called, as a plural.
-    pub name: &'static str,
-}
-
-impl PastTheEnd {
-    /// A list claims no more.
-    pub const NONE: PastTheEnd = PastTheEnd { count: 0, name: "" };
-}
-
 /// A list whose items are written in a form.
 pub struct InForm<L, F> {
     /// The list.
     pub list: L,
     /// The form.
     pub form: F,
-    /// How many more items it claims.
-    pub past: PastTheEnd,
+    /// How many more items it claims, with records that begin past the end of the bytes.
+    pub past: usize,
+    /// What such items are called, as a plural.
+    pub past_name: &'static str,
 }
 
 impl<L: ItemList, F: FieldsForm> Listing for InForm<L, F> {
@@ -62,11 +50,11 @@ impl<L: ItemList, F: FieldsForm> Listing for InForm<L, F> {
     }
 
     fn past(&self) -> usize {
-        self.past.count
+        self.past
     }
 
     fn past_name(&self) -> &'static str {
-        self.past.name
+        self.past_name
     }
 
     fn write_row<O: Write>(row: &L::Item, out: &mut O) -> io::Result<()> {

@@ -3,7 +3,7 @@
 #![forbid(unsafe_code)]
 
 use crate::generated::mach_cli::{
-    InForm, ListProgress, Object, Outcome, PastTheEnd, print_end, print_member, then,
+    InForm, ListProgress, Object, Outcome, print_end, print_member, then,
 };
 use crate::generated::machfixups::lists::ImageRows;
 use crate::generated::machfixups::rows::Rows;
@@ -46,7 +46,8 @@ fn write_list<O: Write>(
     let mut objects = InForm {
         list,
         form: Object,
-        past: PastTheEnd::NONE,
+        past: 0,
+        past_name: "",
     };
     print_member(name, &mut objects, limit, out)
 }

@@ -3,7 +3,7 @@
 #![forbid(unsafe_code)]
 
 use crate::generated::mach_cli::{
-    InForm, ItemList, Line, ListProgress, Outcome, PastTheEnd, count_rows, word_if,
+    InForm, ItemList, Line, ListProgress, Outcome, count_rows, word_if,
 };
 use crate::generated::machinfo::list::{ListUse, use_list};
 use crate::generated::machinfo::word::Word;
@@ -127,15 +127,19 @@ impl ListUse for Count {
     fn of_list<L: ItemList, O: Write>(
         &self,
         list: L,
-        past: PastTheEnd,
+        past: usize,
         out: &mut O,
     ) -> io::Result<Outcome> {
-        let form = Line;
-        let mut list = InForm { list, form, past };
+        let mut list = InForm {
+            list,
+            form: Line,
+            past,
+            past_name: "",
+        };
         let reported = count_rows(&mut list, self.limit);
-        write_count(self.form, self.word, self.limit, reported, past.count, out)?;
+        write_count(self.form, self.word, self.limit, reported, past, out)?;
         Ok(Outcome {
-            whole: reported.whole & !reported.more & (past.count == 0),
+            whole: reported.whole & !reported.more & (past == 0),
             left: reported.left,
         })
     }

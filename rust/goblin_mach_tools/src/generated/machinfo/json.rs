@@ -3,8 +3,8 @@
 #![forbid(unsafe_code)]
 
 use crate::generated::mach_cli::{
-    AddressObjectsOf, ImageView, InForm, ItemList, Object, Outcome, PastTheEnd, ShowFailure,
-    print_end_past, print_member,
+    AddressObjectsOf, ImageView, InForm, ItemList, Object, Outcome, ShowFailure, print_end_past,
+    print_member,
 };
 use crate::generated::machinfo::counts::{COUNTED, Form, print_counts};
 use crate::generated::machinfo::export_rows::{ExportForm, print_exports_of, walk_of};
@@ -81,12 +81,10 @@ fn write_imports<O: Write>(
         parts: &parts,
         bindings: image.bindings(),
     };
-    let name = "imports";
-    Ok(Members { name, left }.of_list(list, PastTheEnd::NONE, out)?)
+    Ok(write_items("imports", list, 0, left, out)?)
 }
 
-// Writes the items of a list as an array of this name, at most `left` of them; whether there are more; and how many more are claimed
-// past the end of the bytes. It answers whether all were written and can be read, and how many more may be written.
+// Writes the items of a list as an array of this name, at most `left` of them.
 #[derive(Clone, Copy)]
 struct Members<'a> {
     name: &'a str,
@@ -97,14 +95,30 @@ impl<'a> ListUse for Members<'a> {
     fn of_list<L: ItemList, O: Write>(
         &self,
         list: L,
-        past: PastTheEnd,
+        past: usize,
         out: &mut O,
     ) -> io::Result<Outcome> {
-        let form = Object;
-        let mut list = InForm { list, form, past };
-        let reported = print_member(self.name, &mut list, self.left, out)?;
-        print_end_past(reported, past.count, out)
+        write_items(self.name, list, past, self.left, out)
     }
+}
+
+// Writes the items of a list as an array of this name, at most `left` of them; whether there are more; and how many more are claimed
+// past the end of the bytes. Returns whether all were written and can be read, and how many more may be written.
+fn write_items<L: ItemList, O: Write>(
+    name: &str,
+    list: L,
+    past: usize,
+    left: usize,
+    out: &mut O,
+) -> io::Result<Outcome> {
+    let mut list = InForm {
+        list,
+        form: Object,
+        past,
+        past_name: "",
+    };
+    let reported = print_member(name, &mut list, left, out)?;
+    print_end_past(reported, past, out)
 }
 
 // Writes the summary as members, with how many items each list has, counted up to `limit`. Returns whether all items can be read

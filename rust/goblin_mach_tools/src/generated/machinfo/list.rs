@@ -2,7 +2,7 @@
 //! The list of an image that a word selects.
 #![forbid(unsafe_code)]
 
-use crate::generated::mach_cli::{ItemList, Outcome, PastTheEnd};
+use crate::generated::mach_cli::{ItemList, Outcome};
 use crate::generated::machinfo::command_rows::CommandRows;
 use crate::generated::machinfo::commands::NumberedCommands;
 use crate::generated::machinfo::lists::{
@@ -28,40 +28,36 @@ pub trait ListUse {
     ///
     /// <details><summary>Proved</summary>
     ///
-    /// - if `Ok(outcome)`: there is `text : List ℕ` with: `writes self (L.items_left list.entry) past.entry.count past.entry.name text outcome × Appends (O.contents out.old) (O.contents out.new) text`
+    /// - if `Ok(outcome)`: there is `text : List ℕ` with: `writes self (L.items_left list) past text outcome × Appends (O.contents out.old) (O.contents out.new) text`
     ///
     /// </details>
     fn of_list<L: ItemList, O: Write>(
         &self,
         list: L,
-        past: PastTheEnd,
+        past: usize,
         out: &mut O,
     ) -> io::Result<Outcome>;
 }
 
 // Returns the indirect symbols that begin within the bytes, and how many more are claimed.
-fn indirect_symbols_in_bounds(
-    list: IndirectSymbolIterator<'_>,
-) -> (IndirectSymbols<'_>, PastTheEnd) {
+fn indirect_symbols_in_bounds(list: IndirectSymbolIterator<'_>) -> (IndirectSymbols<'_>, usize) {
     let in_bounds = list.in_bounds();
-    let count = list.len() - in_bounds.len();
-    let name = "indirect symbols";
-    (IndirectSymbols(in_bounds), PastTheEnd { count, name })
+    let past = list.len() - in_bounds.len();
+    (IndirectSymbols(in_bounds), past)
 }
 
 // Returns the entries of data in code that begin within the bytes, and how many more are claimed.
-fn data_in_bounds(list: DataInCodeIterator<'_>) -> (DataInCode<'_>, PastTheEnd) {
+fn data_in_bounds(list: DataInCodeIterator<'_>) -> (DataInCode<'_>, usize) {
     let in_bounds = list.in_bounds();
-    let count = list.len() - in_bounds.len();
-    let name = "data in code entries";
-    (DataInCode(in_bounds), PastTheEnd { count, name })
+    let past = list.len() - in_bounds.len();
+    (DataInCode(in_bounds), past)
 }
 
 /// Uses the list of an image that a word selects. Of a table the list has the rows that begin within the bytes.
 ///
 /// <details><summary>Proved</summary>
 ///
-/// - for each `bytes : List ℕ`, if `IsImage bytes 0 image`, if `Ok(outcome)`: there is `text : List ℕ` with: `OfRows word bytes (λ rows past. U.writes how rows past (past_name word) text outcome) × Appends (O.contents out.old) (O.contents out.new) text`
+/// - for each `bytes : List ℕ`, if `IsImage bytes 0 image`, if `Ok(outcome)`: there is `text : List ℕ` with: `OfRows word bytes (λ rows past. U.writes how rows past text outcome) × Appends (O.contents out.old) (O.contents out.new) text`
 ///
 /// </details>
 pub fn use_list<U: ListUse, O: Write>(
@@ -70,12 +66,11 @@ pub fn use_list<U: ListUse, O: Write>(
     image: &MachO<'_>,
     out: &mut O,
 ) -> io::Result<Outcome> {
-    let none = PastTheEnd::NONE;
     match word {
-        Word::Commands => how.of_list(CommandRows::of(image), none, out),
-        Word::CommandsAlone => how.of_list(NumberedCommands::of(image), none, out),
-        Word::Starts => how.of_list(FunctionStarts(image.function_starts()), none, out),
-        Word::Slots => how.of_list(Slots(image.symbol_slots()), none, out),
+        Word::Commands => how.of_list(CommandRows::of(image), 0, out),
+        Word::CommandsAlone => how.of_list(NumberedCommands::of(image), 0, out),
+        Word::Starts => how.of_list(FunctionStarts(image.function_starts()), 0, out),
+        Word::Slots => how.of_list(Slots(image.symbol_slots()), 0, out),
         Word::Indirect => {
             let (list, past) = indirect_symbols_in_bounds(image.indirect_symbols());
             how.of_list(list, past, out)
@@ -84,25 +79,25 @@ pub fn use_list<U: ListUse, O: Write>(
             let (list, past) = data_in_bounds(image.data_in_code());
             how.of_list(list, past, out)
         }
-        Word::Options => how.of_list(LinkerOptions(image.linker_options()), none, out),
-        Word::Tools => how.of_list(BuildTools(image.build_tools()), none, out),
-        Word::Notes => how.of_list(NumberedNotes::of(image), none, out),
+        Word::Options => how.of_list(LinkerOptions(image.linker_options()), 0, out),
+        Word::Tools => how.of_list(BuildTools(image.build_tools()), 0, out),
+        Word::Notes => how.of_list(NumberedNotes::of(image), 0, out),
         Word::Providers => {
             let (list, past) = ProvidedSymbols::of(image);
             how.of_list(list, past, out)
         }
-        Word::Libraries => how.of_list(Libraries(image.libraries()), none, out),
-        Word::Rebases => how.of_list(Rebases(image.rebases()), none, out),
-        Word::Weak => how.of_list(WeakBinds(image.weak_binds()), none, out),
-        Word::Segments => how.of_list(NumberedSegments::of(image), none, out),
+        Word::Libraries => how.of_list(Libraries(image.libraries()), 0, out),
+        Word::Rebases => how.of_list(Rebases(image.rebases()), 0, out),
+        Word::Weak => how.of_list(WeakBinds(image.weak_binds()), 0, out),
+        Word::Segments => how.of_list(NumberedSegments::of(image), 0, out),
         Word::Sections => {
             let (list, past) = CountedSections::of(image);
             how.of_list(list, past, out)
         }
-        Word::Uuid => how.of_list(UuidRows::of(image), none, out),
-        Word::Rpaths => how.of_list(NumberedPaths::of(image), none, out),
-        Word::Entry => how.of_list(EntryPoint::of(image), none, out),
-        Word::Header => how.of_list(OneHeader(Some(image.header)), none, out),
-        Word::Security => how.of_list(HardeningFindings(Findings::of(image)), none, out),
+        Word::Uuid => how.of_list(UuidRows::of(image), 0, out),
+        Word::Rpaths => how.of_list(NumberedPaths::of(image), 0, out),
+        Word::Entry => how.of_list(EntryPoint::of(image), 0, out),
+        Word::Header => how.of_list(OneHeader(Some(image.header)), 0, out),
+        Word::Security => how.of_list(HardeningFindings(Findings::of(image)), 0, out),
     }
 }

@@ -2,19 +2,18 @@
 //! The lines of the rows of a list of an image.
 #![forbid(unsafe_code)]
 
-use crate::generated::mach_cli::{
-    FieldsForm, InForm, ItemList, Outcome, PastTheEnd, print_listing,
-};
+use crate::generated::mach_cli::{FieldsForm, InForm, ItemList, Outcome, print_listing};
 use crate::generated::machinfo::list::ListUse;
 use crate::shim::io;
 use crate::shim::io::Write;
 
-/// Prints the rows of a list in a form, at most `left` of them; a row that can't be read is `refused` and why. It answers whether all
-/// rows were printed and can be read, and how many more may be printed.
+/// Prints the rows of a list in a form, at most `left` of them; a row that can't be read is `refused` and why. Rows past the end of the bytes
+/// have a name. It answers whether all rows were printed and can be read, and how many more may be printed.
 #[derive(Clone, Copy)]
 pub struct Lines<'a, F> {
     pub form: F,
     pub refused: &'a str,
+    pub past_name: &'static str,
     pub limit: usize,
     pub left: usize,
 }
@@ -23,11 +22,15 @@ impl<'a, F: FieldsForm + Copy> ListUse for Lines<'a, F> {
     fn of_list<L: ItemList, O: Write>(
         &self,
         list: L,
-        past: PastTheEnd,
+        past: usize,
         out: &mut O,
     ) -> io::Result<Outcome> {
-        let form = self.form;
-        let mut lines = InForm { list, form, past };
+        let mut lines = InForm {
+            list,
+            form: self.form,
+            past,
+            past_name: self.past_name,
+        };
         print_listing(&mut lines, self.refused, self.limit, self.left, out)
     }
 }

@@ -3,8 +3,7 @@
 #![forbid(unsafe_code)]
 
 use crate::generated::mach_cli::{
-    InForm, ListProgress, Object, PastTheEnd, StringOrNull, comma_before, image_kind, print_member,
-    then,
+    InForm, ListProgress, Object, StringOrNull, comma_before, image_kind, print_member, then,
 };
 use crate::generated::machinfo::fact::FactObjects;
 use crate::generated::machinfo::parts::EntryPoint;
@@ -49,7 +48,8 @@ fn write_entry<O: Write>(image: &MachO<'_>, out: &mut O) -> io::Result<ListProgr
     let mut list = InForm {
         list: EntryPoint::of(image),
         form: Object,
-        past: PastTheEnd::NONE,
+        past: 0,
+        past_name: "",
     };
     let reported = print_member("entrypoint", &mut list, 1, out)?;
     Ok(reported)

@@ -137,7 +137,8 @@ fn show_call<W: Write>(
     call: &Call<'_, SharedOnly>,
     out: &mut BufWriter<Titled<W>>,
 ) -> Result<u8, u8> {
-    let selection = match selection_of(call.address, &call.words) {
+    let words = call.words.as_slice();
+    let selection = match selection_of(call.address, words) {
         Ok(selection) => selection,
         Err(misuse) => return Err(PROGRAM.bad_usage(rt, misuse)),
     };

@@ -82,29 +82,41 @@ impl<L: Label> FieldsForm for After<L> {
 ///
 /// </details>
 pub fn print_parts<O: Write>(image: &MachO<'_>, limit: usize, out: &mut O) -> io::Result<bool> {
-    let (form, refused) = (After(Entry), "entry: refused");
-    let entry = Lines {
-        form,
-        refused,
-        limit: 1,
-        left: 1,
-    };
-    let entry = use_list(&entry, Word::Entry, image, out)?;
-    let (form, refused, left) = (After(Segment), "segment: refused", limit);
-    let segments = Lines {
-        form,
-        refused,
+    let entry = print_after(Entry, "entry: refused", Word::Entry, image, 1, out)?;
+    let segments = print_after(
+        Segment,
+        "segment: refused",
+        Word::Segments,
+        image,
         limit,
-        left,
-    };
-    let segments = use_list(&segments, Word::Segments, image, out)?;
-    let (form, refused) = (After(Section), "section: refused");
-    let sections = Lines {
-        form,
-        refused,
+        out,
+    )?;
+    let sections = print_after(
+        Section,
+        "section: refused",
+        Word::Sections,
+        image,
         limit,
-        left,
+        out,
+    )?;
+    Ok(entry & segments & sections)
+}
+
+// Prints the lines of a word's list up to a limit, each after a label, and returns whether all were printed and can be read.
+fn print_after<L: Label + Copy, O: Write>(
+    label: L,
+    refused: &str,
+    word: Word,
+    image: &MachO<'_>,
+    limit: usize,
+    out: &mut O,
+) -> io::Result<bool> {
+    let lines = Lines {
+        form: After(label),
+        refused,
+        past_name: word.past_name(),
+        limit,
+        left: limit,
     };
-    let sections = use_list(&sections, Word::Sections, image, out)?;
-    Ok(entry.whole & segments.whole & sections.whole)
+    Ok(use_list(&lines, word, image, out)?.whole)
 }

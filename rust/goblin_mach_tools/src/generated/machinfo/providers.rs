@@ -2,7 +2,6 @@
 //! The providers of an image's undefined symbols.
 #![forbid(unsafe_code)]
 
-use crate::generated::mach_cli::PastTheEnd;
 use goblin_mach::symbols::SymbolIterator;
 use goblin_mach::{MachO, Provider, Result};
 
@@ -25,21 +24,17 @@ impl<'a, 'b> ProvidedSymbols<'a, 'b> {
     /// <details><summary>Proved</summary>
     ///
     /// - *left*: `provided_left result.0 ≡ provided_in image.header.flags (texts image.libs.items) (symbol_table_view image)`
-    /// - *past*: `result.1.count ≡ symbols_past_in (symbol_table_view image)`
-    /// - *name*: `result.1.name ≡ past_name Providers`
+    /// - *past*: `result.1 ≡ symbols_past_in (symbol_table_view image)`
     ///
     /// </details>
-    pub fn of(image: &'b MachO<'a>) -> (Self, PastTheEnd) {
-        let name = "symbols";
+    pub fn of(image: &'b MachO<'a>) -> (Self, usize) {
         let Some(table) = &image.symbols else {
             let symbols = SymbolIterator::default();
-            let past = PastTheEnd { count: 0, name };
-            return (ProvidedSymbols { image, symbols }, past);
+            return (ProvidedSymbols { image, symbols }, 0);
         };
         let in_bounds = table.in_bounds();
-        let count = table.len() - in_bounds.len();
         let symbols = in_bounds.iter();
-        let past = PastTheEnd { count, name };
+        let past = table.len() - in_bounds.len();
         (ProvidedSymbols { image, symbols }, past)
     }
 

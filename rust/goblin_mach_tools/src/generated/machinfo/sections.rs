@@ -2,7 +2,7 @@
 //! The sections of all segments of an image, as rows.
 #![forbid(unsafe_code)]
 
-use crate::generated::mach_cli::{FieldsForm, ItemList, PastTheEnd};
+use crate::generated::mach_cli::{FieldsForm, ItemList};
 use crate::generated::machinfo::part_fields::{section_fields, stub_fields};
 use crate::generated::machinfo::segments::SectionList;
 use crate::shim::io;
@@ -60,21 +60,19 @@ impl<'a, 'b> CountedSections<'a, 'b> {
     /// <details><summary>Proved</summary>
     ///
     /// - *left*: `sections_counted_left result.0 ≡ section_rows_in 0 0 (segments_view image)`
-    /// - *past*: `result.1.count ≡ sections_past (segments_view image)`
-    /// - *name*: `result.1.name ≡ past_name Sections`
+    /// - *past*: `result.1 ≡ sections_past (segments_view image)`
     ///
     /// </details>
-    pub fn of(image: &'b MachO<'a>) -> (Self, PastTheEnd) {
+    pub fn of(image: &'b MachO<'a>) -> (Self, usize) {
         let segments = image.segments.as_slice();
-        let count = sections_past(segments);
+        let past = sections_past(segments);
         let sections = CountedSections {
             segments,
             segment: 0,
             taken: 0,
             before: 0,
         };
-        let name = "sections";
-        (sections, PastTheEnd { count, name })
+        (sections, past)
     }
 
     /// Returns the next section, or the error if it can't be read.

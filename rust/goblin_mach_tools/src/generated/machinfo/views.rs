@@ -3,12 +3,12 @@
 #![forbid(unsafe_code)]
 
 use crate::generated::mach_cli::{
-    AddressLinesOf, ImageView, Line, Outcome, Pairs, PastTheEnd, ShowFailure, print_cut,
+    AddressLinesOf, ImageView, InForm, Line, Outcome, Pairs, ShowFailure, print_cut, print_listing,
 };
 use crate::generated::machinfo::counts::{COUNTED, Form, print_counts};
 use crate::generated::machinfo::export_rows::{ExportForm, print_exports_of, walk_of};
 use crate::generated::machinfo::imports::ImportList;
-use crate::generated::machinfo::list::{ListUse, use_list};
+use crate::generated::machinfo::list::use_list;
 use crate::generated::machinfo::list_lines::Lines;
 use crate::generated::machinfo::part_lines::print_parts;
 use crate::generated::machinfo::signed::print_signed;
@@ -61,21 +61,21 @@ fn print_list<O: Write>(
     left: usize,
     out: &mut O,
 ) -> io::Result<Outcome> {
-    let refused = "refused";
+    let (refused, past_name) = ("refused", word.past_name());
     if has_names(word) {
-        let form = Pairs;
         let lines = Lines {
-            form,
+            form: Pairs,
             refused,
+            past_name,
             limit,
             left,
         };
         use_list(&lines, word, image, out)
     } else {
-        let form = Line;
         let lines = Lines {
-            form,
+            form: Line,
             refused,
+            past_name,
             limit,
             left,
         };
@@ -111,14 +111,13 @@ fn print_imports<O: Write>(
         parts: &parts,
         bindings: image.bindings(),
     };
-    let (form, refused) = (Line, "refused");
-    let lines = Lines {
-        form,
-        refused,
-        limit,
-        left,
+    let mut lines = InForm {
+        list,
+        form: Line,
+        past: 0,
+        past_name: "",
     };
-    Ok(lines.of_list(list, PastTheEnd::NONE, out)?)
+    Ok(print_listing(&mut lines, "refused", limit, left, out)?)
 }
 
 // Whether the lines of a word's list have the names of fields.

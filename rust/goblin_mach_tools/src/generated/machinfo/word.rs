@@ -141,4 +141,21 @@ impl Word {
             Word::Security => "security",
         }
     }
+
+    /// Returns what the items of the word's list are called, if more of them may be claimed past the end of the bytes.
+    ///
+    /// <details><summary>Proved</summary>
+    ///
+    /// - `result ≡ past_name self`
+    ///
+    /// </details>
+    pub fn past_name(self) -> &'static str {
+        match self {
+            Word::Indirect => "indirect symbols",
+            Word::Data => "data in code entries",
+            Word::Providers => "symbols",
+            Word::Sections => "sections",
+            _ => "",
+        }
+    }
 }
