@@ -23,15 +23,19 @@ is_of_cpu Any cputype cpusubtype = true
 is_of_cpu (Number number) cputype cpusubtype = cputype == number
 is_of_cpu (Arch a) cputype cpusubtype = (cputype == a.cputype) && (kind_of_cpu cpusubtype == a.cpusubtype)
 
+-- whether a cpu is selected, and not all images are
+abbrev pub is_chosen : Cpu → Bool
+is_chosen Any = false
+is_chosen (Number number) = true
+is_chosen (Arch a) = true
+
 -- whether the entry of a record of a fat file is selected
 abbrev pub is_selected : Cpu → FatArch → Bool
 is_selected cpu arch = is_of_cpu cpu arch.cputype arch.cpusubtype
 
 -- a cpu is selected, and none of these records is for it
 abbrev pub misses : Cpu → List FatArch → Bool
-misses Any archs = false
-misses (Number number) archs = not (list_any (is_selected (Number number)) archs)
-misses (Arch a) archs = not (list_any (is_selected (Arch a)) archs)
+misses cpu archs = is_chosen cpu && not (list_any (is_selected cpu) archs)
 
 -- Whether the image at the start of the bytes is selected, by its header.
 abbrev pub IsTaken : Cpu → List ℕ → Bool → Type 0

@@ -6,11 +6,13 @@ use Rattle.mach_cli.specs.CallWords.{no_text_words}
 use Rattle.mach_cli.specs.Escapes.{escaped_text}
 use Rattle.mach_cli.specs.declared.flag.Nearest.{Nearest}
 use Rattle.mach_cli.specs.declared.misuse.Misuse.{Misuse}
-use Rattle.mach_cli.specs.declared.misuse.Misuse.TheVariants.{UnknownOption, UnknownWord, NoNumber, NoCpu, NoAddress, NoColor, Missing, NoText}
+use Rattle.mach_cli.specs.declared.misuse.Misuse.TheVariants.{UnknownOption, UnknownWord, NoList, NoNumber, NoCpu, NoAddress}
+use Rattle.mach_cli.specs.declared.misuse.Misuse.TheVariants.{NoColor, Missing, NoText}
 
 abbrev pub misuse_words : Misuse → List ℕ
 misuse_words (UnknownOption word) = codes "unknown option '" ++ (escaped_text word.now ++ codes "'")
 misuse_words (UnknownWord word) = codes "unknown word '" ++ (escaped_text word.now ++ codes "'")
+misuse_words (NoList word instead) = codes "no list '" ++ (escaped_text word.now ++ (codes "'; " ++ instead.now))
 misuse_words (NoNumber word) = codes "'" ++ (escaped_text word.now ++ codes "' is not a number")
 misuse_words (NoCpu word) = codes "'" ++ (escaped_text word.now ++ codes "' is not a cpu")
 misuse_words (NoAddress word) = codes "'" ++ (escaped_text word.now ++ codes "' is not an address")
@@ -22,6 +24,7 @@ misuse_words (NoText word) = no_text_words word.what.now word.number word.bytes.
 abbrev pub unknown_in : Misuse → Option (List ℕ)
 unknown_in (UnknownOption word) = Some word.now
 unknown_in (UnknownWord word) = Some word.now
+unknown_in (NoList word instead) = None
 unknown_in (NoNumber word) = None
 unknown_in (NoCpu word) = None
 unknown_in (NoAddress word) = None

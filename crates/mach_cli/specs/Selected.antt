@@ -1,11 +1,11 @@
 -- Which parts of a file are selected.
-use Rattle.std.specs.Prelude.{◌==◌, ◌&&◌, ℕ, List, Bool, true, Option, Some, None, length, nat_lt, take}
+use Rattle.std.specs.Prelude.{◌==◌, ◌&&◌, ℕ, List, Bool, true, not, Option, Some, None, length, nat_lt, take}
 use Rattle.std.specs.List.{filter}
 use Rattle.goblin_mach.specs.Items.{ItemView}
 use Rattle.goblin_mach.specs.declared.item.EntryCpu.{EntryCpu}
 use Rattle.goblin_mach.specs.declared.item.ItemPlace.{ItemPlace}
 use Rattle.mach_cli.specs.Bounds.{most_images}
-use Rattle.mach_cli.specs.Cpus.{is_of_cpu}
+use Rattle.mach_cli.specs.Cpus.{is_chosen, is_of_cpu}
 use Rattle.mach_cli.specs.PartsOf.{parts_left}
 use Rattle.mach_cli.specs.declared.cpu.Cpu.{Cpu}
 use Rattle.mach_cli.specs.declared.omitted.Omitted.{Omitted}
@@ -34,9 +34,9 @@ are_more limit cpu xs = nat_lt limit (length (selected_parts cpu xs))
 abbrev pub omitted_of : (limit : ℕ) → Cpu → List ItemView → (left_out : ℕ) → Omitted
 omitted_of limit cpu xs left_out = record { limit = limit; is_cut = are_more (most_images limit) cpu xs; left_out = left_out }
 
--- whether there are parts, and none of them is selected
-abbrev pub are_missed : Cpu → List ItemView → Bool
-are_missed cpu xs = nat_lt 0 (length xs) && (length (selected_parts cpu xs) == 0)
+-- whether a cpu is selected, and none of these parts of what is no archive is for it
+abbrev pub are_missed : Cpu → (is_archive : Bool) → List ItemView → Bool
+are_missed cpu is_archive xs = not is_archive && (is_chosen cpu && (length (selected_parts cpu xs) == 0))
 
 -- ---- the parts left
 

@@ -8,6 +8,7 @@ use Rattle.std.specs.declared.io.buffered.BufWriter.{BufWriter}
 use Rattle.mach_base.specs.Answer.{FailsAs}
 use Rattle.mach_base.specs.Fault.{Fault}
 use Rattle.mach_base.specs.declared.error.Error.{Error}
+use Rattle.goblin_mach.specs.Inputs.{begins_any_archive}
 use Rattle.goblin_mach.specs.Items.{ItemView}
 use Rattle.mach_cli.specs.Bounds.{most_images, most_items}
 use Rattle.mach_cli.specs.FirstMagic.{begins_fat}
@@ -103,10 +104,10 @@ parts_status call bytes status =
 -- What is shown of the bytes of a file: its first parts that are selected, as many as the limit allows, in order; or nothing, if none is
 -- selected; or the file as a whole, if the call doesn't show parts.
 pub data ShowsBytes {W B : Type 0} (m : Manner W B) (file bytes : List ℕ) (old new : BufWriter (Titled W) B) : (status : ℕ) → Type 0 where
-  in_parts : (status : ℕ) → m.call.has_parts ≡ true → are_missed m.call.cpu (shown_parts bytes) ≡ false
+  in_parts : (status : ℕ) → m.call.has_parts ≡ true → are_missed m.call.cpu (begins_any_archive bytes) (shown_parts bytes) ≡ false
       → InOrder (ShowsPart m file bytes) (parts_within (most_images m.call.limit) m.call.cpu (shown_parts bytes)) old new status
       → ShowsBytes m file bytes old new (parts_status m.call bytes status)
-  none_selected : m.call.has_parts ≡ true → are_missed m.call.cpu (shown_parts bytes) ≡ true → new ≡ old → ShowsBytes m file bytes old new 1
+  none_selected : m.call.has_parts ≡ true → are_missed m.call.cpu (begins_any_archive bytes) (shown_parts bytes) ≡ true → new ≡ old → ShowsBytes m file bytes old new 1
   undivided : (status : ℕ) → m.call.has_parts ≡ false → ShowsTitled m m.are_several (file_itself file) bytes old new status
       → ShowsBytes m file bytes old new status
 

@@ -3,7 +3,7 @@
 ghost use Rattle.std.specs.Prelude.{◌≡◌};
 ghost use Rattle.std.specs.List.{list_any};
 ghost use Rattle.mach_dyld.specs.Exports.{text_in};
-ghost use Rattle.mach_cli.specs.Cpus.{entry_cpu_name, is_selected, is_of_cpu, misses};
+ghost use Rattle.mach_cli.specs.Cpus.{entry_cpu_name, is_chosen, is_selected, is_of_cpu, misses};
 
 use goblin_mach::EntryCpu;
 use goblin_mach::cputype::CPU_SUBTYPE_MASK;
@@ -56,14 +56,21 @@ impl Cpu {
         false
     }
 
+    /// Whether a cpu is selected, and not all images are.
+    pub fn is_chosen(&self) -> bool
+        ensures { result ≡ is_chosen self.now }
+    {
+        match self {
+            Cpu::Any => false,
+            Cpu::Number(_) | Cpu::Arch(_) => true,
+        }
+    }
+
     /// Whether a cpu is selected, and none of these records is for it.
     pub fn misses(&self, archs: &[FatArch]) -> bool
         ensures { result ≡ misses self.now archs.now }
     {
-        match self {
-            Cpu::Any => false,
-            Cpu::Number(_) | Cpu::Arch(_) => !self.has_entry(archs),
-        }
+        self.is_chosen() && !self.has_entry(archs)
     }
 }
 

@@ -26,7 +26,7 @@ use crate::refusal::{Refusal, complain};
 use crate::title::{Title, title_of};
 use crate::titled::{Titled, put_title};
 use crate::word::NoText;
-use goblin_mach::InputItem;
+use goblin_mach::{InputItem, begins_archive};
 use mach_base::describe;
 use mach_parts::FatArch64;
 use std::alloc::{AllocError, Allocator, Global};
@@ -287,7 +287,7 @@ impl<S: FileView<BufWriter<Titled<W>, B>>, W: Write + Drop, B: Allocator> Run<'_
         let rt = self.rt;
         let Files { cpu, limit, .. } = self.files;
         let parts = parts_of(rt.alloc(), bytes);
-        if is_missed(cpu, parts) {
+        if is_missed(cpu, begins_archive(bytes), parts) {
             return Ok(self.refuse(file, Label::None, Refusal::NoEntry(cpu)));
         }
         let omitted = Omitted::of(limit, cpu, parts, parts_left_out(rt.alloc(), bytes));
