@@ -39,10 +39,12 @@ use Rattle.machinfo.specs.ProvidedSymbols.{ProvidedView, provided_in, symbols_pa
 use Rattle.machinfo.specs.CommandRowFields.{command_row_fields}
 use Rattle.machinfo.specs.Lists.{HasRows}
 use Rattle.machinfo.specs.PartFields.{entry_part_fields, header_part_fields, one_row, rpath_rows_from, section_part_fields, segment_rows_from, uuid_part_fields}
+use Rattle.machinfo.specs.OwnNames.{OwnNameView, own_name_by, own_name_fields}
 use Rattle.machinfo.specs.Parts.{EntryView, IsEntryRow, uuid_row_by}
-use Rattle.machinfo.specs.RowFields.{data_fields, fields_read, finding_fields, indirect_fields, library_fields, note_fields, option_fields}
+use Rattle.machinfo.specs.RowFields.{data_fields, fields_read, indirect_fields, library_row_fields, note_fields, option_fields}
 use Rattle.machinfo.specs.RowFields.{provided_fields, rebase_row_fields, slot_fields, start_fields, tool_fields, weak_row_fields}
 use Rattle.machinfo.specs.SectionRows.{section_rows_in, sections_past}
+use Rattle.machinfo.specs.Verdicts.{explained_fields, finding_fields}
 use Rattle.mach_audit.specs.Security.{all_findings}
 use Rattle.mach_audit.specs.declared.security.Finding.{Finding}
 use Rattle.mach_cli.specs.Fields.{FieldView}
@@ -103,7 +105,7 @@ module _ {A : Type 0} (m : MachO A) (bytes : List ℕ) (o : ℕ) (p : IsImage by
   )
 
   pub library_rows : (items : List LibraryView) → items ≡ libraries_in (ctx_view m).le (bytes_view m) (commands_view m)
-      → HasRows words.Libraries bytes o (map (λ l. Ok (library_fields l)) items) 0
+      → HasRows words.Libraries bytes o (map (λ l. Ok (library_row_fields l)) items) 0
   library_rows items is = ((items, ((libraries_by_kind_are m).strict bytes o p items).1 is, refl), refl)
 
   pub rebase_rows : (items : List (Result Rebase Fault))
@@ -152,6 +154,18 @@ module _ {A : Type 0} (m : MachO A) (bytes : List ℕ) (o : ℕ) (p : IsImage by
   pub finding_rows : (items : List (Result Finding Fault)) → items ≡ all_findings (facts_view m)
       → HasRows words.Security bytes o (fields_read finding_fields items) 0
   finding_rows items is = ((items, of_parts (λ f. items ≡ all_findings f) is, refl), refl)
+
+  pub explained_rows : (items : List (Result Finding Fault)) → items ≡ all_findings (facts_view m)
+      → HasRows words.SecurityExplained bytes o (fields_read explained_fields items) 0
+  explained_rows items is = ((items, of_parts (λ f. items ≡ all_findings f) is, refl), refl)
+
+  pub own_name_rows : (items : List (Result OwnNameView Fault)) → items ≡ filter_map (own_name_by (bytes_view m)) (commands_view m)
+      → HasRows words.Id bytes o (fields_read own_name_fields items) 0
+  own_name_rows items is = (
+    of_parts (λ f. fields_read own_name_fields items ≡ fields_read own_name_fields (filter_map (own_name_by f.bytes) f.commands))
+        (ap (fields_read own_name_fields) is),
+    refl,
+  )
 
   pub import_fields_are : (parts : List SegmentStretches) (segments : List SegmentView) → HasSegments bytes o segments
       → parts ≡ parts_of (length bytes) segments → (items : List (Result Binding Fault))

@@ -1,5 +1,5 @@
 -- What a call shows.
-use Rattle.std.specs.Prelude.{◌≡◌, ℕ, List, Option, Some, codes, true}
+use Rattle.std.specs.Prelude.{◌≡◌, ℕ, List, Option, Some, codes, option_map, true}
 use Rattle.std.specs.Borrow.{Bor}
 use Rattle.std.specs.declared.io.buffered.BufWriter.{BufWriter}
 use Rattle.mach_cli.specs.Bounds.{limit_of}
@@ -7,34 +7,36 @@ use Rattle.mach_cli.specs.Calls.{is_json}
 use Rattle.mach_cli.specs.ShownCalls.{ShowsJson, ShowsText}
 use Rattle.mach_cli.specs.declared.call.Call.{Call}
 use Rattle.mach_cli.specs.declared.image_files.ImageFiles.{ImageFiles}
-use Rattle.mach_cli.specs.declared.options.SharedOnly.{SharedOnly}
 use Rattle.mach_cli.specs.declared.titled.Titled.{Titled}
 use Rattle.machinfo.specs.ImageLines.{AreInfoLines, AreInfoMembers}
-use Rattle.machinfo.specs.Words.{selected}
+use Rattle.machinfo.specs.Words.{explained_choice, selected}
+use Rattle.machinfo.specs.declared.arguments.InfoOptions.{InfoOptions}
 use Rattle.machinfo.specs.declared.json.InfoObjects.{InfoObjects}
 use Rattle.machinfo.specs.declared.views.InfoLines.{InfoLines}
 use Rattle.machinfo.specs.declared.word.Choice.{Choice}
 
--- How a call shows its files: what it selects, or else the summary, as lines or as objects.
-pub record AreInfoFiles {A : Type 0} (call : Call A SharedOnly) (choice : Option Choice) (s : ImageFiles InfoLines InfoObjects) : Type 0 where
+-- How a call shows its files: what it selects, explained if that is asked for, or else the summary, as lines or as objects. If headings
+-- are asked for, there are some; a terminal has them too.
+pub record AreInfoFiles {A : Type 0} (call : Call A InfoOptions) (choice : Option Choice) (s : ImageFiles InfoLines InfoObjects) : Type 0 where
   pub program : s.program.name.now ≡ codes "machinfo"
   pub cpu : s.cpu ≡ call.cpu
   pub limit : s.limit ≡ limit_of call.limit 10000000
   pub form : s.is_json ≡ is_json call.format
   pub titles : s.has_titles ≡ true
-  pub lines : s.lines ≡ record { choice = choice }
+  pub lines : s.lines.choice ≡ option_map (explained_choice call.own.is_explained) choice
+  pub headings : call.own.has_headings ≡ true → s.lines.has_headings ≡ true
   pub objects : s.objects ≡ record { choice = choice }
 
 -- A call shows what its arguments select, of their files and of those that it names in other ways, as lines.
-abbrev pub ShowsInfoLines : {W A B : Type 0} → (contents : W → Option (List ℕ)) → Call A SharedOnly → (old new : BufWriter (Titled W) B)
+abbrev pub ShowsInfoLines : {W A B : Type 0} → (contents : W → Option (List ℕ)) → Call A InfoOptions → (old new : BufWriter (Titled W) B)
     → (worst : ℕ) → Type 0
 ShowsInfoLines contents call old new worst =
     (choice : Option Choice) × (files : List (Bor (List ℕ))) × (selected call.address call.words.items ≡ Some (choice, files))
     × (s : ImageFiles InfoLines InfoObjects) × AreInfoFiles call choice s
-    × ShowsText s s.program.name.now (AreInfoLines s.lines.choice) contents files call.others old new worst
+    × ShowsText s s.program.name.now (AreInfoLines s.lines.has_headings s.lines.choice) contents files call.others old new worst
 
 -- the same as objects
-abbrev pub ShowsInfoObjects : {W A B : Type 0} → (contents : W → Option (List ℕ)) → Call A SharedOnly → (old new : BufWriter (Titled W) B)
+abbrev pub ShowsInfoObjects : {W A B : Type 0} → (contents : W → Option (List ℕ)) → Call A InfoOptions → (old new : BufWriter (Titled W) B)
     → (worst : ℕ) → Type 0
 ShowsInfoObjects contents call old new worst =
     (choice : Option Choice) × (files : List (Bor (List ℕ))) × (selected call.address call.words.items ≡ Some (choice, files))

@@ -15,6 +15,7 @@ use Rattle.mach_signature.specs.SignedFacts.{HasCodeDirectory}
 use Rattle.machinfo.specs.Counts.{AreCounts, counted_words}
 use Rattle.machinfo.specs.ExportRows.{HasExportFields}
 use Rattle.machinfo.specs.FrontStatus.{IsFrontWhole}
+use Rattle.machinfo.specs.Headings.{AreUnderHeading, exports_heading, heading_of, imports_heading}
 use Rattle.machinfo.specs.Imports.{HasImportFields}
 use Rattle.machinfo.specs.Lists.{OfRows}
 use Rattle.machinfo.specs.PartLines.{AreLinesOfParts}
@@ -117,13 +118,17 @@ pub record AreImageSummaryMembers (limit left : ℕ) (bytes : List ℕ) (text : 
   pub is_whole : whole ≡ (front_whole && counts_whole)
   pub is_rest : rest ≡ left
 
--- The lines of what is selected, or of the summary. The line of an address has no name of a file before it.
-abbrev pub AreInfoLines : Option Choice → (file : List ℕ) → (limit : ℕ) → ImageLines
-AreInfoLines (Some (choices.Word word)) file limit = AreImageListLines word limit
-AreInfoLines (Some choices.Exports) file limit = λ left bytes. AreListedLines (HasExportFields left bytes) limit left
-AreInfoLines (Some choices.Imports) file limit = λ left bytes. AreListedLines (HasImportFields bytes) limit left
-AreInfoLines (Some (choices.At address)) file limit = AreAddressLines address false false file limit
-AreInfoLines None file limit = AreImageSummaryLines limit
+-- The lines of what is selected, or of the summary; those of a list under its heading, if there are headings. The line of an address
+-- has no name of a file before it.
+abbrev pub AreInfoLines : (has_headings : Bool) → Option Choice → (file : List ℕ) → (limit : ℕ) → ImageLines
+AreInfoLines has_headings (Some (choices.Word word)) file limit =
+    λ left bytes. AreUnderHeading has_headings (heading_of word) (AreImageListLines word limit left bytes)
+AreInfoLines has_headings (Some choices.Exports) file limit =
+    λ left bytes. AreUnderHeading has_headings exports_heading (AreListedLines (HasExportFields left bytes) limit left)
+AreInfoLines has_headings (Some choices.Imports) file limit =
+    λ left bytes. AreUnderHeading has_headings imports_heading (AreListedLines (HasImportFields bytes) limit left)
+AreInfoLines has_headings (Some (choices.At address)) file limit = AreAddressLines address false false file limit
+AreInfoLines has_headings None file limit = AreImageSummaryLines limit
 
 -- The same as members.
 abbrev pub AreInfoMembers : Option Choice → (file : List ℕ) → (limit : ℕ) → ImageLines

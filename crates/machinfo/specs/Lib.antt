@@ -2,6 +2,10 @@ pub mod Counts
 pub mod Signed
 pub mod ImageLines
 pub mod Words
+pub mod InfoOptions
+pub mod Headings
+pub mod Verdicts
+pub mod OwnNames
 pub mod Platforms
 pub mod CommandFields
 pub mod NumberedCommands

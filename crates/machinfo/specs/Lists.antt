@@ -18,9 +18,11 @@ use Rattle.machinfo.specs.NumberedNotes.{HasNumberedNotes}
 use Rattle.machinfo.specs.PartFields.{entry_part_fields, header_part_fields, one_row, rpath_rows_from, section_part_fields, segment_rows_from, uuid_part_fields}
 use Rattle.machinfo.specs.Parts.{EntryView, IsEntryRow, uuid_row_by}
 use Rattle.machinfo.specs.ProvidedSymbols.{HasProvidedSymbols, symbols_past_in}
-use Rattle.machinfo.specs.RowFields.{data_fields, fields_read, finding_fields, indirect_fields, library_fields, note_fields, option_fields}
+use Rattle.machinfo.specs.OwnNames.{own_name_by, own_name_fields}
+use Rattle.machinfo.specs.RowFields.{data_fields, fields_read, indirect_fields, library_row_fields, note_fields, option_fields}
 use Rattle.machinfo.specs.RowFields.{provided_fields, rebase_row_fields, slot_fields, start_fields, tool_fields, weak_row_fields}
 use Rattle.machinfo.specs.SectionRows.{section_rows_in, sections_past}
+use Rattle.machinfo.specs.Verdicts.{explained_fields, finding_fields}
 use Rattle.machinfo.specs.declared.word.Word.{Word}
 use Rattle.machinfo.specs.declared.word.Word.TheVariants as words
 
@@ -51,7 +53,9 @@ HasRows words.Tools bytes o rows past = AreFieldsOf tool_fields (HasBuildTools b
 HasRows words.Notes bytes o rows past = AreFieldsOf note_fields (HasNumberedNotes bytes o) rows × (past ≡ 0)
 HasRows words.Providers bytes o rows past =
     AreFieldsOf provided_fields (HasProvidedSymbols bytes o) rows × OfFacts bytes o (λ f. past ≡ symbols_past_in f.symbols)
-HasRows words.Libraries bytes o rows past = AreFieldsOfAll library_fields (HasLibrariesByKind bytes o) rows × (past ≡ 0)
+HasRows words.Libraries bytes o rows past = AreFieldsOfAll library_row_fields (HasLibrariesByKind bytes o) rows × (past ≡ 0)
+HasRows words.Id bytes o rows past =
+    OfFacts bytes o (λ f. rows ≡ fields_read own_name_fields (filter_map (own_name_by f.bytes) f.commands)) × (past ≡ 0)
 HasRows words.Rebases bytes o rows past = AreFieldsOf rebase_row_fields (HasRebases bytes o) rows × (past ≡ 0)
 HasRows words.Weak bytes o rows past = AreFieldsOf weak_row_fields (HasWeakBinds bytes o) rows × (past ≡ 0)
 HasRows words.Segments bytes o rows past = OfFacts bytes o (λ f. rows ≡ segment_rows_from 0 f.segments) × (past ≡ 0)
@@ -65,6 +69,7 @@ HasRows words.Entry bytes o rows past =
     × OfFacts bytes o (λ f. (row : Option EntryView) × IsEntryRow point.address f row × (rows ≡ one_row entry_part_fields row)) × (past ≡ 0)
 HasRows words.Header bytes o rows past = OfFacts bytes o (λ f. rows ≡ Ok (header_part_fields f.header) ∷ []) × (past ≡ 0)
 HasRows words.Security bytes o rows past = AreFieldsOf finding_fields (HasFindings bytes o) rows × (past ≡ 0)
+HasRows words.SecurityExplained bytes o rows past = AreFieldsOf explained_fields (HasFindings bytes o) rows × (past ≡ 0)
 
 -- the name of a word's items, if more of them may be claimed past the end of the bytes
 abbrev pub past_name : Word → List ℕ

@@ -1,5 +1,5 @@
 -- What the rows of lists show, field by field: as lines, and as objects of JSON.
-use Rattle.std.specs.Prelude.{◌||◌, ℕ, List, [], ◌∷◌, codes, length, map, Bool, true, false, not, Some, Result, Ok, if◌then◌else◌}
+use Rattle.std.specs.Prelude.{◌||◌, ◌++◌, ℕ, List, [], ◌∷◌, codes, length, map, Bool, true, false, not, Some, Result, Ok, if◌then◌else◌}
 use Rattle.mach_base.specs.Answer.{◌>>=◌}
 use Rattle.mach_base.specs.Fault.{Fault}
 use Rattle.mach_records.specs.declared.linkedit.DataInCodeEntry.{DataInCodeEntry}
@@ -16,13 +16,12 @@ use Rattle.goblin_mach.specs.Libraries.{LibraryView}
 use Rattle.goblin_mach.specs.declared.libraries.LibraryAttributes.{LibraryAttributes}
 use Rattle.goblin_mach.specs.declared.libraries.LibraryKind.{LibraryKind}
 use Rattle.goblin_mach.specs.declared.libraries.LibraryKind.TheVariants.{Lazy}
-use Rattle.mach_audit.specs.Security.{finding_words}
-use Rattle.mach_audit.specs.declared.security.Finding.{Finding}
 use Rattle.mach_cli.specs.Fields.{FieldView, number, named, signed, hex, text, version, flag, flags, field_of, line_field}
 use Rattle.mach_cli.specs.Fields.{fields_line, fields_pairs, object_field, optional_text}
 use Rattle.mach_cli.specs.Fields.{whether, wide_field}
 use Rattle.mach_cli.specs.Signing.{diverse_by, diversity_by, has_auth, key_by, rebase_type}
 use Rattle.machinfo.specs.NumberedNotes.{NumberedNoteView}
+use Rattle.machinfo.specs.OwnNames.{version_columns}
 use Rattle.machinfo.specs.PartFields.{column_if, flag_field}
 use Rattle.machinfo.specs.ProvidedSymbols.{ProvidedView}
 use Rattle.mach_cli.specs.JsonText.{if_not_empty}
@@ -127,15 +126,19 @@ abbrev pub library_fields : LibraryView → List FieldView
 library_fields l =
     object_field (codes "compatibility_version") (number l.compatibility_version)
     ∷ object_field (codes "current_version") (number l.current_version)
-    ∷ flag_field (codes "is_delayed") l.attributes.is_delayed (codes "delayed") 5
-    ∷ flag_field (codes "is_lazy") (is_lazy_kind l.kind) (codes "lazy") 6
-    ∷ flag_field (codes "is_reexport") l.attributes.is_reexport (codes "reexport") 3
-    ∷ flag_field (codes "is_upward") l.attributes.is_upward (codes "upward") 4
-    ∷ flag_field (codes "is_weak") l.attributes.is_weak (codes "weak") 2
+    ∷ flag_field (codes "is_delayed") l.attributes.is_delayed (codes "delayed") 7
+    ∷ flag_field (codes "is_lazy") (is_lazy_kind l.kind) (codes "lazy") 8
+    ∷ flag_field (codes "is_reexport") l.attributes.is_reexport (codes "reexport") 5
+    ∷ flag_field (codes "is_upward") l.attributes.is_upward (codes "upward") 6
+    ∷ flag_field (codes "is_weak") l.attributes.is_weak (codes "weak") 4
     ∷ field_of (codes "name") (text l.name) 1
     ∷ object_field (codes "ordinal") (number l.ordinal)
-    ∷ line_field (text (codes "-")) (column_if (is_plain l.attributes (is_lazy_kind l.kind)) 7)
+    ∷ line_field (text (codes "-")) (column_if (is_plain l.attributes (is_lazy_kind l.kind)) 9)
     ∷ []
+
+-- the same with the versions, as a line of the list has them
+abbrev pub library_row_fields : LibraryView → List FieldView
+library_row_fields l = library_fields l ++ version_columns l.current_version l.compatibility_version
 
 -- ---- rebases and weak binds
 
@@ -169,16 +172,6 @@ strong_row_fields name = flag_field (codes "is_strong") true (codes "strong") 1 
 abbrev pub weak_row_fields : WeakBind → List FieldView
 weak_row_fields (strong_name name) = strong_row_fields name
 weak_row_fields (weakly_bound b) = binding_fields b
-
--- ---- verdicts
-
--- the name of the verdict, whether it holds, and what `yes` means
-abbrev pub finding_fields : Finding → List FieldView
-finding_fields it =
-    field_of (codes "is_so") (flag it.is_so (codes "yes") (codes "no ")) 2
-    ∷ field_of (codes "meaning") (text (finding_words it.verdict).1) 3
-    ∷ wide_field 22 (field_of (codes "name") (text (finding_words it.verdict).0) 1)
-    ∷ []
 
 -- ---- rows
 

@@ -1,17 +1,17 @@
 -- The words that select a list.
-use Rattle.std.specs.Prelude.{◌≡◌, ◌&&◌, ℕ, List, [], ◌∷◌, codes, Bool, true, Option, Some, None, option_map, bytes_eq, drop, nat_le, if◌then◌else◌}
+use Rattle.std.specs.Prelude.{◌≡◌, ◌&&◌, ℕ, List, [], ◌∷◌, codes, Bool, true, false, Option, Some, None, option_map, bytes_eq, drop, nat_le, if◌then◌else◌}
 use Rattle.std.specs.Borrow.{Bor}
 use Rattle.std.specs.List.{list_all}
 use Rattle.mach_cli.specs.Calls.{word_address}
 use Rattle.mach_cli.specs.declared.misuse.Misuse.{Misuse}
-use Rattle.mach_cli.specs.declared.misuse.Misuse.TheVariants.{Missing, NoAddress, UnknownWord}
+use Rattle.mach_cli.specs.declared.misuse.Misuse.TheVariants.{Missing, NoAddress, NoList, UnknownWord}
 use Rattle.machinfo.specs.declared.selection.Selection.{Selection}
 use Rattle.machinfo.specs.declared.word.Choice.{Choice}
 use Rattle.machinfo.specs.declared.word.Choice.TheVariants as choices
 use Rattle.machinfo.specs.declared.word.Word.{Word}
 use Rattle.machinfo.specs.declared.word.Word.TheVariants.{Commands, CommandsAlone, Starts, Slots, Indirect, Data}
 use Rattle.machinfo.specs.declared.word.Word.TheVariants.{Options, Tools, Notes, Providers, Libraries, Rebases}
-use Rattle.machinfo.specs.declared.word.Word.TheVariants.{Weak, Segments, Sections, Uuid, Rpaths, Entry, Header, Security}
+use Rattle.machinfo.specs.declared.word.Word.TheVariants.{Id, Weak, Segments, Sections, Uuid, Rpaths, Entry, Header, Security, SecurityExplained}
 
 -- how a word is spelled
 abbrev pub spelling_of : Word → List ℕ
@@ -26,6 +26,7 @@ spelling_of Tools = codes "tools"
 spelling_of Notes = codes "notes"
 spelling_of Providers = codes "providers"
 spelling_of Libraries = codes "libraries"
+spelling_of Id = codes "id"
 spelling_of Rebases = codes "rebases"
 spelling_of Weak = codes "weak"
 spelling_of Segments = codes "segments"
@@ -35,11 +36,12 @@ spelling_of Rpaths = codes "rpaths"
 spelling_of Entry = codes "entrypoint"
 spelling_of Header = codes "header"
 spelling_of Security = codes "security"
+spelling_of SecurityExplained = codes "security"
 
 -- the words that a call may have
 abbrev pub list_words : List Word
 list_words =
-    Commands ∷ Starts ∷ Slots ∷ Indirect ∷ Data ∷ Options ∷ Tools ∷ Notes ∷ Providers ∷ Libraries ∷ Rebases ∷ Weak ∷ Segments ∷ Sections
+    Commands ∷ Starts ∷ Slots ∷ Indirect ∷ Data ∷ Options ∷ Tools ∷ Notes ∷ Providers ∷ Libraries ∷ Id ∷ Rebases ∷ Weak ∷ Segments ∷ Sections
     ∷ Uuid ∷ Rpaths ∷ Entry ∷ Header ∷ Security ∷ []
 
 -- the first word with a spelling
@@ -55,6 +57,16 @@ unfoldable pub choice_named : List ℕ → Option Choice
 choice_named text =
     if bytes_eq text (codes "exports") then Some choices.Exports
     else (if bytes_eq text (codes "imports") then Some choices.Imports else option_map (λ word. choices.Word word) (word_named text))
+
+-- the word of the list that explains the items of another, if there is one; and the choice of it, if that is asked for
+abbrev pub explained_word : Word → Word
+explained_word Security = SecurityExplained
+explained_word word = word
+
+abbrev pub explained_choice : (is_explained : Bool) → Choice → Choice
+explained_choice false choice = choice
+explained_choice true (choices.Word word) = choices.Word (explained_word word)
+explained_choice true choice = choice
 
 -- ---- the arguments of a call
 
@@ -100,13 +112,36 @@ IsNoAddress (word ∷ files) misuse = (misuse ≡ NoAddress word) × (word_addre
 abbrev pub is_small_letter : ℕ → Bool
 is_small_letter byte = nat_le 0x61 byte && nat_le byte 0x7a
 
--- This is wrong with a call that selects nothing: the first of its files, which others follow, is an unknown word of small letters
--- alone.
+-- lists that other programs have, each with what prints it
+abbrev pub lists_elsewhere : List (List ℕ × List ℕ)
+lists_elsewhere =
+    (codes "symbols", codes "machsyms prints symbols")
+    ∷ (codes "fixups", codes "machfixups prints fixups")
+    ∷ (codes "binds", codes "machfixups --binds prints binds")
+    ∷ (codes "chains", codes "machfixups --chains prints chains")
+    ∷ (codes "signature", codes "machsign prints the signature")
+    ∷ (codes "entitlements", codes "machsign --entitlements prints entitlements")
+    ∷ (codes "requirements", codes "machsign prints requirements")
+    ∷ (codes "faults", codes "machaudit prints faults")
+    ∷ (codes "entries", codes "machfat list prints entries")
+    ∷ (codes "members", codes "machfat members prints members")
+    ∷ []
+
+abbrev pub prints_among : List (List ℕ × List ℕ) → (word : List ℕ) → Option (List ℕ)
+prints_among [] word = None
+prints_among (row ∷ rows) word = if bytes_eq word row.0 then Some row.1 else prints_among rows word
+
+-- A word is wrong: another program has such a list, or it is unknown.
+abbrev pub IsWordWrong : Option (List ℕ) → (word : Bor (List ℕ)) → Misuse → Type 0
+IsWordWrong (Some prints) word misuse = (instead : Bor (List ℕ)) × (instead.now ≡ prints) × (misuse ≡ NoList word instead)
+IsWordWrong None word misuse = misuse ≡ UnknownWord word
+
+-- This is wrong with a call that selects nothing: the first of its files, which others follow, is a wrong word of small letters alone.
 abbrev pub IsMisspelled : Option Choice → List (Bor (List ℕ)) → Misuse → Type 0
 IsMisspelled choice [] misuse = ⊥
 IsMisspelled choice (first ∷ []) misuse = ⊥
 IsMisspelled choice (first ∷ next ∷ others) misuse =
-    (misuse ≡ UnknownWord first) × (choice ≡ None) × (list_all is_small_letter first.now ≡ true)
+    IsWordWrong (prints_among lists_elsewhere first.now) first misuse × (choice ≡ None) × (list_all is_small_letter first.now ≡ true)
 
 -- ---- what the code's values mean
 

@@ -11,13 +11,15 @@ ghost use Rattle.machinfo.specs.Lists.{OfRows};
 use crate::command_rows::CommandRows;
 use crate::commands::NumberedCommands;
 use crate::lists::{
-    BuildTools, DataInCode, FunctionStarts, HardeningFindings, IndirectSymbols, Libraries,
-    LinkerOptions, Rebases, Slots, WeakBinds,
+    BuildTools, DataInCode, FunctionStarts, IndirectSymbols, Libraries, LinkerOptions, Rebases,
+    Slots, WeakBinds,
 };
 use crate::notes::NumberedNotes;
+use crate::own_names::OwnNames;
 use crate::parts::{EntryPoint, NumberedPaths, NumberedSegments, OneHeader, UuidRows};
 use crate::providers::ProvidedSymbols;
 use crate::sections::CountedSections;
+use crate::verdicts::{ExplainedFindings, HardeningFindings};
 use crate::word::Word;
 use goblin_mach::slots::IndirectSymbolIterator;
 use goblin_mach::{DataInCodeIterator, MachO};
@@ -101,6 +103,7 @@ pub fn use_list<U: ListUse, A: Allocator, O: Write>(
             how.of_list(list, past, out)
         }
         Word::Libraries => how.of_list(Libraries(image.libraries()), 0, out),
+        Word::Id => how.of_list(OwnNames::of(image), 0, out),
         Word::Rebases => how.of_list(Rebases(image.rebases()), 0, out),
         Word::Weak => how.of_list(WeakBinds(image.weak_binds()), 0, out),
         Word::Segments => how.of_list(NumberedSegments::of(image), 0, out),
@@ -113,5 +116,6 @@ pub fn use_list<U: ListUse, A: Allocator, O: Write>(
         Word::Entry => how.of_list(EntryPoint::of(image), 0, out),
         Word::Header => how.of_list(OneHeader(Some(image.header)), 0, out),
         Word::Security => how.of_list(HardeningFindings(Findings::of(image)), 0, out),
+        Word::SecurityExplained => how.of_list(ExplainedFindings(Findings::of(image)), 0, out),
     }
 }

@@ -10,16 +10,16 @@ ghost use Rattle.goblin_mach.specs.Libraries.{libraries_left, library_view};
 ghost use Rattle.goblin_mach.specs.RebasesLeft.{rebases_left};
 ghost use Rattle.mach_dyld.specs.RebasesLeft.{rebase_view};
 ghost use Rattle.mach_dyld.specs.WeakBindsLeft.{weak_bind_view, weak_binds_left};
-ghost use Rattle.mach_audit.specs.Security.{findings_left};
 ghost use Rattle.mach_cli.specs.Fields.{field_view};
 ghost use Rattle.machinfo.specs.NumberedNotes.{numbered_note_view, notes_numbered_left};
 ghost use Rattle.machinfo.specs.ProvidedSymbols.{provided_left, provided_view};
 ghost use Rattle.machinfo.specs.PartFields.{column_if, flag_field};
-ghost use Rattle.machinfo.specs.RowFields.{binding_fields, data_fields, fields_read, finding_fields, indirect_fields};
-ghost use Rattle.machinfo.specs.RowFields.{is_lazy_kind, is_plain, library_fields, note_fields, option_fields, provided_fields, rebase_row_fields};
+ghost use Rattle.machinfo.specs.RowFields.{binding_fields, data_fields, fields_read, indirect_fields};
+ghost use Rattle.machinfo.specs.RowFields.{is_lazy_kind, is_plain, library_fields, library_row_fields, note_fields, option_fields, provided_fields, rebase_row_fields};
 ghost use Rattle.machinfo.specs.RowFields.{slot_fields, slot_kind_text, start_fields, strong_row_fields, tool_fields, weak_row_fields};
 
 use crate::notes::{NumberedNote, NumberedNotes};
+use crate::own_names::version_columns;
 use crate::providers::{Provided, ProvidedSymbols};
 use crate::text::tool_word;
 use goblin_mach::load_command::{BuildToolVersion, DataInCodeEntry};
@@ -31,7 +31,6 @@ use goblin_mach::{
     LibraryAttributes, LibraryIterator, LibraryKind, LinkerOptionIterator, Provider, Rebase,
     RebaseIterator, Result, WeakBind, WeakBindIterator,
 };
-use mach_audit::{Finding, Findings};
 use mach_cli::{
     Field, FieldsForm, ItemList, Value, diverse_by, diversity_by, has_auth, if_not_empty, key_by,
     rebase_type,
@@ -376,18 +375,19 @@ pub struct Libraries<'a, 'b>(pub LibraryIterator<'a, 'b>);
 impl<'a, 'b> ItemList for Libraries<'a, 'b> {
     type Item = Library<'a>;
 
-    ghost fields = { λ item. library_fields (library_view item) };
+    ghost fields = { λ item. library_row_fields (library_view item) };
 
-    ghost items_left = { λ s. map (λ l. Ok (library_fields l)) (libraries_left s.0) };
+    ghost items_left = { λ s. map (λ l. Ok (library_row_fields l)) (libraries_left s.0) };
 
     fn next_item(&mut self) -> Option<Result<Library<'a>>> {
         Some(Ok(self.0.next()?))
     }
 
     fn write_item<F: FieldsForm, O: Write>(library: &Library<'a>, out: &mut O) -> io::Result<()>
-        ensures { OnOk result (Appends (O.contents out.old) (O.contents out.new) (F.fields_text (library_fields (library_view library.now)))) }
+        ensures { OnOk result (Appends (O.contents out.old) (O.contents out.new) (F.fields_text (library_row_fields (library_view library.now)))) }
     {
-        write_library::<F, O>(*library, out)
+        let versions = version_columns(library.current_version, library.compatibility_version);
+        F::write_both(&library_fields(*library), &versions, out)
     }
 }
 
@@ -412,6 +412,7 @@ fn is_plain(how: LibraryAttributes, is_lazy: bool) -> bool
 }
 
 // Returns the fields of a library: its name and how it is used; an object also has its versions and its place in the image's list.
+// A line of the list has the versions in the columns 2 and 3.
 fn library_fields<'a>(library: Library<'a>) -> [Field<'a>; 10]
     ensures { map field_view result ≡ library_fields (library_view library.entry) }
 {
@@ -422,14 +423,14 @@ fn library_fields<'a>(library: Library<'a>) -> [Field<'a>; 10]
     [
         Field::of_object("compatibility_version", least),
         Field::of_object("current_version", current),
-        flag_field("is_delayed", how.is_delayed, "delayed", 5),
-        flag_field("is_lazy", is_lazy, "lazy", 6),
-        flag_field("is_reexport", how.is_reexport, "reexport", 3),
-        flag_field("is_upward", how.is_upward, "upward", 4),
-        flag_field("is_weak", how.is_weak, "weak", 2),
+        flag_field("is_delayed", how.is_delayed, "delayed", 7),
+        flag_field("is_lazy", is_lazy, "lazy", 8),
+        flag_field("is_reexport", how.is_reexport, "reexport", 5),
+        flag_field("is_upward", how.is_upward, "upward", 6),
+        flag_field("is_weak", how.is_weak, "weak", 4),
         Field::new("name", Value::Text(library.name), 1),
         Field::of_object("ordinal", Value::Number(library.ordinal as u64)),
-        Field::of_line(Value::Text("-"), column_if(is_plain(how, is_lazy), 7)),
+        Field::of_line(Value::Text("-"), column_if(is_plain(how, is_lazy), 9)),
     ]
 }
 
@@ -533,43 +534,5 @@ fn strong_fields<'a>(name: &'a str) -> [Field<'a>; 2]
     [
         flag_field("is_strong", true, "strong", 1),
         Field::new("name", Value::Text(name), 2),
-    ]
-}
-
-/// How an image is hardened.
-#[derive(Drop)]
-pub struct HardeningFindings<'a, 'b, A: Allocator>(pub Findings<'a, 'b, A>);
-
-impl<'a, 'b, A: Allocator> ItemList for HardeningFindings<'a, 'b, A> {
-    type Item = Finding;
-
-    ghost fields = { finding_fields };
-
-    ghost items_left = { λ s. fields_read finding_fields (findings_left s.0) };
-
-    #[tactic(auto, using(crate::proofs::ListRows::next_fields))]
-    fn next_item(&mut self) -> Option<Result<Finding>> {
-        self.0.take_next()
-    }
-
-    fn write_item<F: FieldsForm, O: Write>(finding: &Finding, out: &mut O) -> io::Result<()> {
-        F::write(&finding_fields(*finding), out)
-    }
-}
-
-// Returns the fields of a finding: the name of the verdict, whether it holds, and what `yes` means.
-fn finding_fields(finding: Finding) -> [Field<'static>; 3]
-    ensures { map field_view result ≡ finding_fields finding }
-{
-    let (name, meaning) = finding.verdict.words();
-    let is_so = Value::Flag {
-        is_so: finding.is_so,
-        yes: "yes",
-        no: "no ",
-    };
-    [
-        Field::new("is_so", is_so, 2),
-        Field::new("meaning", Value::Text(meaning), 3),
-        Field::new("name", Value::Text(name), 1).wide(22),
     ]
 }

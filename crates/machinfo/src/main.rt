@@ -1,7 +1,7 @@
 //! Prints a summary of a Mach-O image: what it is, how it is signed, and how many items its lists have.
 //!
 //! With a word it prints one list instead, an item a line: load commands, function starts, stubs and pointers, indirect symbols,
-//! data in code, linker options, tools, notes, providers of symbols, libraries, rebases, weak binds, segments, sections,
+//! data in code, linker options, tools, notes, providers of symbols, libraries, the own name, rebases, weak binds, segments, sections,
 //! UUIDs, run paths, the entry point, the header, how it is hardened, exports or imports. Of a fat file it prints that of each entry, or of the
 //! entries for one cpu, under a line that says which. With `at` and an address it prints what each image has there.
 //!
@@ -9,7 +9,7 @@
 //! be read is a line with the error. With `--json` it writes one object for each file instead, on a line.
 #![tactic(auto)]
 
-ghost use Rattle.std.specs.Prelude.{◌≡◌, false, true, IfOk, IfSome};
+ghost use Rattle.std.specs.Prelude.{◌≡◌, false, true, option_map, IfOk, IfSome};
 ghost use Rattle.mach_cli.specs.Calls.{is_json};
 ghost use Rattle.mach_cli.specs.ShownCalls.{ShowsJson, ShowsText};
 ghost use Rattle.machinfo.specs.Calls.{AreInfoFiles, ShowsInfoLines, ShowsInfoObjects};
@@ -42,22 +42,26 @@ mod list;
 mod list_lines;
 mod lists;
 mod notes;
+mod own_names;
 mod part_fields;
 mod parts;
 mod providers;
 mod registers;
 mod sections;
+mod verdicts;
 
 // What a call selects.
+mod arguments;
 mod selection;
 mod word;
 
-use crate::selection::{Selection, has_small_letters, selection_of};
+use crate::arguments::InfoOptions;
+use crate::selection::{Selection, has_small_letters, prints_elsewhere, selection_of};
 use crate::word::Choice;
 use json::InfoObjects;
-use mach_cli::{Call, ImageFiles, Misuse, Options, Others, Program, SharedOnly, Titled};
+use mach_cli::{Call, ImageFiles, Misuse, Options, Others, Program, Titled};
 use std::alloc::Global;
-use std::io::{BufWriter, Write};
+use std::io::{BufWriter, IsTerminal, Write};
 use std::process::ExitCode;
 use views::InfoLines;
 
@@ -69,15 +73,16 @@ const PROGRAM: Program = Program {
     about: "machinfo prints a summary of Mach-O files, or with a word one of their lists, a
 line for each item.
 ",
-    usage: "usage: machinfo [--json] [--limit N] [--arch NAME | --cputype 0xN]
-                [--names FILE] [-0] [--color WHEN] [WORD] FILE..
+    usage: "usage: machinfo [--headings] [--explain] [--json] [--limit N]
+                [--arch NAME | --cputype 0xN] [--names FILE] [-0]
+                [--color WHEN] [WORD] FILE..
        machinfo at ADDRESS | --at ADDRESS [--json]
                 [--arch NAME | --cputype 0xN] [--names FILE] [-0]
                 [--color WHEN] FILE..
        machinfo -h | --help | --version
 WORD: commands, starts, slots, indirect, data, options, tools, notes, providers,
-      libraries, rebases, weak, segments, sections, uuid, rpaths, entrypoint,
-      header, security, exports, imports
+      libraries, id, rebases, weak, segments, sections, uuid, rpaths,
+      entrypoint, header, security, exports, imports
 ",
     version: "machinfo 0.3.0\n",
     options: Options {
@@ -94,7 +99,8 @@ WORD: commands, starts, slots, indirect, data, options, tools, notes, providers,
   tools                     print the build tools
   notes                     print the notes
   providers                 print which library provides each undefined symbol
-  libraries                 print the libraries and how each is used
+  libraries                 print the libraries, their versions and their use
+  id                        print the name and versions of a library itself
   rebases                   print the rebases
   weak                      print the weak binds
   segments                  print the segments
@@ -107,7 +113,9 @@ WORD: commands, starts, slots, indirect, data, options, tools, notes, providers,
   exports                   print what the image exports
   imports                   print what dyld binds
 ",
-    flags: "      --limit N             print at most N rows per file
+    flags: "      --headings            print a heading before the lines of a list
+      --explain             print what turns each verdict of security on
+      --limit N             print at most N rows per file
 ",
     examples: "  machinfo prog                 a summary
   machinfo imports prog         what dyld binds
@@ -124,12 +132,12 @@ fn main(rt: HostRuntime) -> ExitCode {
 // Runs the program with its words.
 fn start(rt: &HostRuntime) -> Result<u8, u8> {
     let words = PROGRAM.words(rt)?;
-    let call = PROGRAM.call(rt, SharedOnly, &words)?;
+    let call = PROGRAM.call(rt, InfoOptions::NONE, &words)?;
     answer(rt, &call)
 }
 
 // Runs a parsed call.
-fn answer(rt: &HostRuntime, call: &Call<'_, Global, SharedOnly>) -> Result<u8, u8> {
+fn answer(rt: &HostRuntime, call: &Call<'_, Global, InfoOptions>) -> Result<u8, u8> {
     let mut out = PROGRAM.output(rt, call.color, call.format)?;
     show_call(rt, call, &mut out)
 }
@@ -137,7 +145,7 @@ fn answer(rt: &HostRuntime, call: &Call<'_, Global, SharedOnly>) -> Result<u8, u
 // Shows what the arguments of a call select, of all files that it names, and returns the worst status.
 fn show_call<W: Write + Drop>(
     rt: &HostRuntime,
-    call: &Call<'_, Global, SharedOnly>,
+    call: &Call<'_, Global, InfoOptions>,
     out: &mut BufWriter<Titled<W>>,
 ) -> Result<u8, u8>
     ensures lines { is_json call.now.format ≡ false → IfOk result (ShowsInfoLines W.contents call.now out.old out.new) }
@@ -154,12 +162,12 @@ fn show_call<W: Write + Drop>(
     if let Some(misuse) = misspelled(rt, selection) {
         return Err(PROGRAM.bad_usage(rt, misuse));
     }
-    let shown = shown_by(call, selection.choice);
+    let shown = shown_by(call, selection.choice, rt.stdout().is_terminal());
     show(rt, &shown, selection.files, &call.others, out)
 }
 
-// Returns what is wrong with a first file before others that is nearly a word, if nothing is selected: it is of small letters alone,
-// and similar to a word.
+// Returns what is wrong with a first file before others, if nothing is selected: it is of small letters alone, and it is a list of
+// another program or similar to a word.
 fn misspelled<'a>(rt: &HostRuntime, selection: Selection<'_, 'a>) -> Option<Misuse<'a>>
     ensures { IfSome result (words.IsMisspelled selection.entry.choice selection.entry.files.now) }
 {
@@ -169,20 +177,37 @@ fn misspelled<'a>(rt: &HostRuntime, selection: Selection<'_, 'a>) -> Option<Misu
     if selection.choice.is_some() || !has_small_letters(first.as_bytes()) {
         return None;
     }
+    if let Some(instead) = prints_elsewhere(first) {
+        return Some(Misuse::NoList {
+            word: first,
+            instead,
+        });
+    }
     let misuse = Misuse::UnknownWord(first);
     let meant = PROGRAM.meant(rt.alloc(), misuse);
     if meant.is_some() { Some(misuse) } else { None }
 }
 
-// Returns how a call shows its files: what it selects, or else the summary, as lines or as objects.
+// Returns how a call shows its files: what it selects, or else the summary, as lines or as objects. A terminal has headings.
 fn shown_by(
-    call: &Call<'_, Global, SharedOnly>,
+    call: &Call<'_, Global, InfoOptions>,
     choice: Option<Choice>,
+    is_terminal: bool,
 ) -> ImageFiles<InfoLines, InfoObjects>
     ensures { AreInfoFiles call.now choice result }
 {
-    let (lines, objects) = (InfoLines { choice }, InfoObjects { choice });
-    ImageFiles::of(PROGRAM, call, DEFAULT_LIMIT, lines, objects)
+    let lines = InfoLines {
+        choice: explained(call.own.is_explained, choice),
+        has_headings: call.own.has_headings || is_terminal,
+    };
+    ImageFiles::of(PROGRAM, call, DEFAULT_LIMIT, lines, InfoObjects { choice })
+}
+
+// Returns what is shown in place of a choice, if items are explained.
+fn explained(is_explained: bool, choice: Option<Choice>) -> Option<Choice>
+    ensures { result ≡ option_map (words.explained_choice is_explained) choice }
+{
+    Some(choice?.explained(is_explained))
 }
 
 // Shows files in order, and returns the worst status.
@@ -194,7 +219,7 @@ fn show<W: Write + Drop>(
     out: &mut BufWriter<Titled<W>>,
 ) -> Result<u8, u8>
     ensures text { let s = shown.now in s.is_json ≡ false
-        → IfOk result (ShowsText s s.program.name.now (AreInfoLines s.lines.choice) W.contents files.now others.now out.old out.new) }
+        → IfOk result (ShowsText s s.program.name.now (AreInfoLines s.lines.has_headings s.lines.choice) W.contents files.now others.now out.old out.new) }
     ensures json { let s = shown.now in s.is_json ≡ true
         → IfOk result (ShowsJson s s.program.name.now (AreInfoMembers s.objects.choice) W.contents files.now others.now out.old out.new) }
 {

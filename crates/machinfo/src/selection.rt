@@ -3,6 +3,7 @@
 ghost use Rattle.std.specs.Prelude.{◌≡◌, drop, option_map, IfErr};
 ghost use Rattle.std.specs.List.{list_all};
 ghost use Rattle.std.specs.Result.{result_ok};
+ghost use Rattle.mach_dyld.specs.Exports.{text_in};
 ghost use Rattle.machinfo.specs.Words as words;
 
 use crate::word::Choice;
@@ -77,6 +78,25 @@ fn files_named<'a, 'b>(arguments: &'a [&'b str]) -> &'a [&'b str]
     match arguments {
         [_, files @ ..] if selected_by(arguments).is_some() => files,
         _ => arguments,
+    }
+}
+
+/// Returns what prints the list with this name, if another program does.
+pub fn prints_elsewhere(word: &str) -> Option<&'static str>
+    ensures { text_in result ≡ words.prints_among words.lists_elsewhere word.now }
+{
+    match word {
+        "symbols" => Some("machsyms prints symbols"),
+        "fixups" => Some("machfixups prints fixups"),
+        "binds" => Some("machfixups --binds prints binds"),
+        "chains" => Some("machfixups --chains prints chains"),
+        "signature" => Some("machsign prints the signature"),
+        "entitlements" => Some("machsign --entitlements prints entitlements"),
+        "requirements" => Some("machsign prints requirements"),
+        "faults" => Some("machaudit prints faults"),
+        "entries" => Some("machfat list prints entries"),
+        "members" => Some("machfat members prints members"),
+        _ => None,
     }
 }
 

@@ -1,11 +1,12 @@
 //! What the program prints of an image.
 
-ghost use Rattle.std.specs.Prelude.{◌≡◌, ℕ, List, [], IfErr, IfOk};
+ghost use Rattle.std.specs.Prelude.{◌≡◌, ℕ, List, [], IfErr, IfOk, OnOk};
 ghost use Rattle.std.specs.Io.KnownBytes.{Appends};
 ghost use Rattle.goblin_mach.specs.OpenImage.{IsImage};
 ghost use Rattle.mach_cli.specs.Failures.{IfMemory};
 ghost use Rattle.machinfo.specs.ExportRows.{HasExportFields};
 ghost use Rattle.machinfo.specs.Imports.{HasImportFields};
+ghost use Rattle.machinfo.specs.Headings.{AreUnderHeading, exports_heading, heading_line, imports_heading};
 ghost use Rattle.machinfo.specs.ImageLines.{AreImageListLines, AreImageSummaryLines, AreInfoLines, AreListedLines};
 ghost use Rattle.machinfo.specs.RowFields.{has_names};
 
@@ -32,10 +33,12 @@ use std::io::Write;
 #[derive(Clone, Copy)]
 pub struct InfoLines {
     pub choice: Option<Choice>,
+    /// The lines of a list follow a heading.
+    pub has_headings: bool,
 }
 
 impl ImageView for InfoLines {
-    ghost lines = { λ s. AreInfoLines s.choice };
+    ghost lines = { λ s. AreInfoLines s.has_headings s.choice };
 
     fn show<A: Allocator + Clone, O: Write>(
         &self,
@@ -46,10 +49,14 @@ impl ImageView for InfoLines {
         left: usize,
         out: &mut O,
     ) -> Result<Outcome, ShowFailure> {
+        let has_headings = self.has_headings;
         match self.choice {
-            Some(Choice::Word(word)) => Ok(print_list(word, image, limit, left, out)?),
-            Some(Choice::Exports) => print_exports(alloc, image, limit, left, out),
-            Some(Choice::Imports) => print_imports(alloc, image, limit, left, out),
+            Some(Choice::Word(word)) => {
+                print_heading(has_headings, word.heading(), out)?;
+                Ok(print_list(word, image, limit, left, out)?)
+            }
+            Some(Choice::Exports) => print_exports(alloc, has_headings, image, limit, left, out),
+            Some(Choice::Imports) => print_imports(alloc, has_headings, image, limit, left, out),
             Some(Choice::At(address)) => {
                 let line = AddressLinesOf {
                     address,
@@ -61,6 +68,16 @@ impl ImageView for InfoLines {
             None => Ok(print_summary(image, limit, left, out)?),
         }
     }
+}
+
+// Prints the line of a heading, if there is one.
+fn print_heading<O: Write>(has_headings: bool, heading: &str, out: &mut O) -> io::Result<()>
+    ensures { OnOk result (Appends (O.contents out.old) (O.contents out.new) (heading_line has_headings heading.now)) }
+{
+    if has_headings {
+        writeln!(out, "{heading}")?;
+    }
+    Ok(())
 }
 
 // Prints the rows of a word's list, at most `left` of them; a row that can't be read is a line that says why. Returns whether all
@@ -100,16 +117,19 @@ fn print_list<A: Allocator, O: Write>(
 // Prints the exports of an image as a walk meets them, at most `left` of them. A fault of the trie is the last line.
 fn print_exports<A: Allocator + Clone, O: Write>(
     alloc: &A,
+    has_headings: bool,
     image: &MachO<'_, A>,
     limit: usize,
     left: usize,
     out: &mut O,
 ) -> Result<Outcome, ShowFailure>
     ensures shown { (bytes : List ℕ) → IsImage bytes 0 image.now → IfOk result (λ outcome. (text : List ℕ)
-        × AreListedLines (HasExportFields left bytes) limit left text outcome.whole outcome.left × Appends (O.contents out.old) (O.contents out.new) text) }
+        × AreUnderHeading has_headings exports_heading (AreListedLines (HasExportFields left bytes) limit left) text outcome.whole outcome.left
+        × Appends (O.contents out.old) (O.contents out.new) text) }
     ensures memory { IfErr result (IfMemory (Appends (O.contents out.old) (O.contents out.new) [])) }
 {
     let walk = walk_of(alloc, image)?;
+    print_heading(has_headings, "ADDRESS     KIND         WEAK NAME", out)?;
     let shown = print_exports_of(ExportForm::Lines, image.base(), walk, left, out)?;
     print_cut(limit, shown.more, out)?;
     Ok(Outcome {
@@ -121,16 +141,20 @@ fn print_exports<A: Allocator + Clone, O: Write>(
 // Prints what dyld binds in an image, at most `left` binds; one that can't be read is a line that says why.
 fn print_imports<A: Allocator + Clone, O: Write>(
     alloc: &A,
+    has_headings: bool,
     image: &MachO<'_, A>,
     limit: usize,
     left: usize,
     out: &mut O,
 ) -> Result<Outcome, ShowFailure>
     ensures shown { (bytes : List ℕ) → IsImage bytes 0 image.now → IfOk result (λ outcome. (text : List ℕ)
-        × AreListedLines (HasImportFields bytes) limit left text outcome.whole outcome.left × Appends (O.contents out.old) (O.contents out.new) text) }
+        × AreUnderHeading has_headings imports_heading (AreListedLines (HasImportFields bytes) limit left) text outcome.whole outcome.left
+        × Appends (O.contents out.old) (O.contents out.new) text) }
     ensures memory { IfErr result (IfMemory (Appends (O.contents out.old) (O.contents out.new) [])) }
 {
     let parts = AllStretches::of_image(alloc, image)?;
+    let heading = "ADDRESS     SEGMENT      SECTION          LIBRARY              SYMBOL";
+    print_heading(has_headings, heading, out)?;
     let list = ImportList {
         parts: &parts,
         bindings: image.bindings(),

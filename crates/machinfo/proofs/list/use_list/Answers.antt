@@ -9,6 +9,7 @@ use Rattle.mach_audit.specs.Security.{findings_left}
 use Rattle.machinfo.specs.CommandRows.{command_rows_left}
 use Rattle.machinfo.specs.NumberedCommands.{numbered_commands_left}
 use Rattle.machinfo.specs.NumberedNotes.{notes_numbered_left}
+use Rattle.machinfo.specs.OwnNames.{own_names_left}
 use Rattle.machinfo.specs.PartFields.{paths_numbered_left, segments_numbered_left}
 use Rattle.machinfo.specs.Parts.{entry_view, uuid_rows_left}
 use Rattle.machinfo.specs.ProvidedSymbols.{provided_left}
@@ -142,3 +143,15 @@ returns-in-Security g c =
     rw c.in-Security.is (λ bytes p. of_rows _ bytes _ _ _ _ _
     (facts.finding_rows c.args.image.now bytes 0 p (findings_left c.of-in-Security.result) c.of-in-Security.ensures)
     c.of_list-in-Security.ensures)
+
+pub returns-in-SecurityExplained : goal.returns-in-SecurityExplained
+returns-in-SecurityExplained g c =
+    rw c.in-SecurityExplained.is (λ bytes p. of_rows _ bytes _ _ _ _ _
+    (facts.explained_rows c.args.image.now bytes 0 p (findings_left c.of-in-SecurityExplained.result) c.of-in-SecurityExplained.ensures)
+    c.of_list-in-SecurityExplained.ensures)
+
+pub returns-in-Id : goal.returns-in-Id
+returns-in-Id g c =
+    rw c.in-Id.is (λ bytes p. of_rows _ bytes _ _ _ _ _
+    (facts.own_name_rows c.args.image.now bytes 0 p (own_names_left c.of-in-Id.result) c.of-in-Id.ensures)
+    c.of_list-in-Id.ensures)

@@ -1,0 +1,10 @@
+-- The options that only this program has.
+use Rattle.std.specs.Prelude.{ℕ, List, codes, bytes_eq, Bool, true, false, if◌then◌else◌}
+use Rattle.machinfo.specs.declared.arguments.InfoOptions.{InfoOptions}
+
+-- The options after an argument, and whether it is one of them.
+abbrev pub option_taken : InfoOptions → List ℕ → InfoOptions × Bool
+option_taken o argument =
+    if bytes_eq argument (codes "--headings") then (record o { has_headings = true }, true)
+    else (if bytes_eq argument (codes "--explain") then (record o { is_explained = true }, true)
+    else (o, false))

@@ -1,0 +1,35 @@
+//! The options that only this program has.
+
+use mach_cli::OwnOptions;
+
+/// What a call's own options say.
+#[derive(Clone, Copy, Drop)]
+pub struct InfoOptions {
+    /// The lines of a list follow a heading.
+    pub has_headings: bool,
+    /// The line of a verdict says what turns it on.
+    pub is_explained: bool,
+}
+
+impl InfoOptions {
+    /// None of these options.
+    pub const NONE: InfoOptions = InfoOptions {
+        has_headings: false,
+        is_explained: false,
+    };
+}
+
+impl OwnOptions for InfoOptions {
+    ghost use Rattle.machinfo.specs.InfoOptions.{option_taken};
+
+    ghost taken = { option_taken };
+
+    fn take(&mut self, argument: &str) -> bool {
+        match argument {
+            "--headings" => self.has_headings = true,
+            "--explain" => self.is_explained = true,
+            _ => return false,
+        }
+        true
+    }
+}
