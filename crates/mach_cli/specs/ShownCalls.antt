@@ -107,7 +107,8 @@ pub data ShowsBytes {W B : Type 0} (m : Manner W B) (file bytes : List ℕ) (old
   in_parts : (status : ℕ) → m.call.has_parts ≡ true → are_missed m.call.cpu (begins_any_archive bytes) (shown_parts bytes) ≡ false
       → InOrder (ShowsPart m file bytes) (parts_within (most_images m.call.limit) m.call.cpu (shown_parts bytes)) old new status
       → ShowsBytes m file bytes old new (parts_status m.call bytes status)
-  none_selected : m.call.has_parts ≡ true → are_missed m.call.cpu (begins_any_archive bytes) (shown_parts bytes) ≡ true → new ≡ old → ShowsBytes m file bytes old new 1
+  none_selected : m.call.has_parts ≡ true → are_missed m.call.cpu (begins_any_archive bytes) (shown_parts bytes) ≡ true → new ≡ old
+      → ShowsBytes m file bytes old new 1
   undivided : (status : ℕ) → m.call.has_parts ≡ false → ShowsTitled m m.are_several (file_itself file) bytes old new status
       → ShowsBytes m file bytes old new status
 

@@ -36,12 +36,12 @@ abbrev pub imports_heading : List ℕ
 imports_heading = codes "ADDRESS     SEGMENT      SECTION          LIBRARY              SYMBOL"
 
 -- the line of a heading, if there is one
-abbrev pub heading_line : (has_headings : Bool) → (heading : List ℕ) → List ℕ
-heading_line has_headings heading = if has_headings then heading ++ codes "\n" else []
+abbrev pub list_heading : (has_headings : Bool) → (heading : List ℕ) → List ℕ
+list_heading has_headings heading = if has_headings then heading ++ codes "\n" else []
 
 -- The text is a heading, if there is one, and then these lines.
 pub record AreUnderHeading (has_headings : Bool) (heading : List ℕ) (Are : List ℕ → Bool → ℕ → Type 0) (text : List ℕ) (whole : Bool) (rest : ℕ)
     : Type 0 where
   pub lines : List ℕ
   pub are : Are lines whole rest
-  pub is_text : text ≡ heading_line has_headings heading ++ lines
+  pub is_text : text ≡ list_heading has_headings heading ++ lines

@@ -3,8 +3,8 @@ use Rattle.std.specs.Prelude.{ℕ, List, codes, bytes_eq, Bool, true, false, if�
 use Rattle.machinfo.specs.declared.arguments.InfoOptions.{InfoOptions}
 
 -- The options after an argument, and whether it is one of them.
-abbrev pub option_taken : InfoOptions → List ℕ → InfoOptions × Bool
-option_taken o argument =
+abbrev pub info_option_taken : InfoOptions → List ℕ → InfoOptions × Bool
+info_option_taken o argument =
     if bytes_eq argument (codes "--headings") then (record o { has_headings = true }, true)
     else (if bytes_eq argument (codes "--explain") then (record o { is_explained = true }, true)
     else (o, false))

@@ -20,9 +20,9 @@ impl InfoOptions {
 }
 
 impl OwnOptions for InfoOptions {
-    ghost use Rattle.machinfo.specs.InfoOptions.{option_taken};
+    ghost use Rattle.machinfo.specs.InfoOptions.{info_option_taken};
 
-    ghost taken = { option_taken };
+    ghost taken = { info_option_taken };
 
     fn take(&mut self, argument: &str) -> bool {
         match argument {

@@ -15,7 +15,8 @@ ghost use Rattle.machinfo.specs.NumberedNotes.{numbered_note_view, notes_numbere
 ghost use Rattle.machinfo.specs.ProvidedSymbols.{provided_left, provided_view};
 ghost use Rattle.machinfo.specs.PartFields.{column_if, flag_field};
 ghost use Rattle.machinfo.specs.RowFields.{binding_fields, data_fields, fields_read, indirect_fields};
-ghost use Rattle.machinfo.specs.RowFields.{is_lazy_kind, is_plain, library_fields, library_row_fields, note_fields, option_fields, provided_fields, rebase_row_fields};
+ghost use Rattle.machinfo.specs.RowFields.{is_lazy_kind, is_plain, library_fields, library_row_fields, note_fields, option_fields};
+ghost use Rattle.machinfo.specs.RowFields.{provided_fields, rebase_row_fields};
 ghost use Rattle.machinfo.specs.RowFields.{slot_fields, slot_kind_text, start_fields, strong_row_fields, tool_fields, weak_row_fields};
 
 use crate::notes::{NumberedNote, NumberedNotes};

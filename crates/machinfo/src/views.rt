@@ -6,7 +6,7 @@ ghost use Rattle.goblin_mach.specs.OpenImage.{IsImage};
 ghost use Rattle.mach_cli.specs.Failures.{IfMemory};
 ghost use Rattle.machinfo.specs.ExportRows.{HasExportFields};
 ghost use Rattle.machinfo.specs.Imports.{HasImportFields};
-ghost use Rattle.machinfo.specs.Headings.{AreUnderHeading, exports_heading, heading_line, imports_heading};
+ghost use Rattle.machinfo.specs.Headings.{AreUnderHeading, exports_heading, list_heading, imports_heading};
 ghost use Rattle.machinfo.specs.ImageLines.{AreImageListLines, AreImageSummaryLines, AreInfoLines, AreListedLines};
 ghost use Rattle.machinfo.specs.RowFields.{has_names};
 
@@ -72,7 +72,7 @@ impl ImageView for InfoLines {
 
 // Prints the line of a heading, if there is one.
 fn print_heading<O: Write>(has_headings: bool, heading: &str, out: &mut O) -> io::Result<()>
-    ensures { OnOk result (Appends (O.contents out.old) (O.contents out.new) (heading_line has_headings heading.now)) }
+    ensures { OnOk result (Appends (O.contents out.old) (O.contents out.new) (list_heading has_headings heading.now)) }
 {
     if has_headings {
         writeln!(out, "{heading}")?;

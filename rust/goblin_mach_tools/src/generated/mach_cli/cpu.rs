@@ -59,6 +59,20 @@ impl Cpu {
         false
     }
 
+    /// Whether a cpu is selected, and not all images are.
+    ///
+    /// <details><summary>Proved</summary>
+    ///
+    /// - `result ≡ is_chosen self`
+    ///
+    /// </details>
+    pub fn is_chosen(&self) -> bool {
+        match self {
+            Cpu::Any => false,
+            Cpu::Number(_) | Cpu::Arch(_) => true,
+        }
+    }
+
     /// Whether a cpu is selected, and none of these records is for it.
     ///
     /// <details><summary>Proved</summary>
@@ -67,10 +81,7 @@ impl Cpu {
     ///
     /// </details>
     pub fn misses(&self, archs: &[FatArch]) -> bool {
-        match self {
-            Cpu::Any => false,
-            Cpu::Number(_) | Cpu::Arch(_) => !self.has_entry(archs),
-        }
+        self.is_chosen() && !self.has_entry(archs)
     }
 }
 

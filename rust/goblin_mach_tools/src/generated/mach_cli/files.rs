@@ -27,8 +27,8 @@ use core::marker::PhantomData;
 use core::str;
 use goblin_mach::AllocError;
 use goblin_mach::FatArch64;
-use goblin_mach::InputItem;
 use goblin_mach::describe;
+use goblin_mach::{InputItem, begins_archive};
 
 /// What a program shows of a file.
 pub trait FileView<W> {
@@ -258,7 +258,7 @@ impl<S: FileView<BufWriter<Titled<W>>>, W: Write> Run<'_, S, W> {
         let rt = self.rt;
         let Files { cpu, limit, .. } = self.files;
         let parts = parts_of(bytes);
-        if is_missed(cpu, parts) {
+        if is_missed(cpu, begins_archive(bytes), parts) {
             return Ok(self.refuse(file, Label::None, Refusal::NoEntry(cpu)));
         }
         let omitted = Omitted::of(limit, cpu, parts, parts_left_out(bytes));

@@ -14,6 +14,11 @@ pub enum Misuse<'a> {
     UnknownOption(&'a str),
     /// An unknown word instead of a command.
     UnknownWord(&'a str),
+    /// The word of a list that the program doesn't have, and what has it.
+    NoList {
+        word: &'a str,
+        instead: &'static str,
+    },
     /// What should be a number isn't one.
     NoNumber(&'a str),
     /// What should be a cpu isn't a known one.
@@ -33,6 +38,9 @@ impl Display for Misuse<'_> {
         match self {
             Misuse::UnknownOption(word) => write!(f, "unknown option '{}'", Escaped(word)),
             Misuse::UnknownWord(word) => write!(f, "unknown word '{}'", Escaped(word)),
+            Misuse::NoList { word, instead } => {
+                write!(f, "no list '{}'; {instead}", Escaped(word))
+            }
             Misuse::NoNumber(word) => write!(f, "'{}' is not a number", Escaped(word)),
             Misuse::NoCpu(word) => write!(f, "'{}' is not a cpu", Escaped(word)),
             Misuse::NoAddress(word) => write!(f, "'{}' is not an address", Escaped(word)),

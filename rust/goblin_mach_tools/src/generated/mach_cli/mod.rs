@@ -72,105 +72,63 @@ mod terminal;
 pub use crate::generated::mach_cli::bounds::most_items;
 pub use crate::generated::mach_cli::call::Call;
 pub use crate::generated::mach_cli::color::Color;
-pub use crate::generated::mach_cli::complaint::Complaint;
-pub use crate::generated::mach_cli::complaint::Trouble;
+pub use crate::generated::mach_cli::complaint::{Complaint, Trouble};
 pub use crate::generated::mach_cli::cpu::Cpu;
-pub use crate::generated::mach_cli::digits::print_hexadecimal;
-pub use crate::generated::mach_cli::digits::print_signed;
-pub use crate::generated::mach_cli::digits::print_wide_hexadecimal;
+pub use crate::generated::mach_cli::digits::{
+    print_hexadecimal, print_signed, print_wide_hexadecimal,
+};
 pub use crate::generated::mach_cli::directory_name::print_name;
-pub use crate::generated::mach_cli::escaped::Escaped;
-pub use crate::generated::mach_cli::escaped::EscapedBytes;
-pub use crate::generated::mach_cli::escaped::print_bytes;
-pub use crate::generated::mach_cli::escaped::print_escaped;
-pub use crate::generated::mach_cli::escaped::print_wide_escaped;
+pub use crate::generated::mach_cli::escaped::{
+    Escaped, EscapedBytes, print_bytes, print_escaped, print_wide_escaped,
+};
 pub use crate::generated::mach_cli::failure::ShowFailure;
-pub use crate::generated::mach_cli::fields::Field;
-pub use crate::generated::mach_cli::fields::FieldsForm;
-pub use crate::generated::mach_cli::fields::Line;
-pub use crate::generated::mach_cli::fields::Object;
-pub use crate::generated::mach_cli::fields::Pairs;
-pub use crate::generated::mach_cli::fields::Value;
-pub use crate::generated::mach_cli::fields::word_if;
-pub use crate::generated::mach_cli::files::FileView;
-pub use crate::generated::mach_cli::files::Files;
-pub use crate::generated::mach_cli::first_bytes::begins_whole_archive;
-pub use crate::generated::mach_cli::first_bytes::entry_counts;
-pub use crate::generated::mach_cli::first_bytes::entry_kind;
-pub use crate::generated::mach_cli::first_bytes::refused_kind;
-pub use crate::generated::mach_cli::flags::print_code_flags;
-pub use crate::generated::mach_cli::flags::print_segment_flags;
-pub use crate::generated::mach_cli::hexadecimal::address_in;
-pub use crate::generated::mach_cli::hexadecimal::cputype_in;
+pub use crate::generated::mach_cli::fields::{
+    Field, FieldsForm, Line, Object, Pairs, Value, word_if,
+};
+pub use crate::generated::mach_cli::files::{FileView, Files};
+pub use crate::generated::mach_cli::first_bytes::{
+    begins_whole_archive, entry_counts, entry_kind, refused_kind,
+};
+pub use crate::generated::mach_cli::flags::{print_code_flags, print_segment_flags};
+pub use crate::generated::mach_cli::hexadecimal::{address_in, cputype_in};
 pub use crate::generated::mach_cli::image_files::ImageFiles;
 pub use crate::generated::mach_cli::image_kinds::image_kind;
-pub use crate::generated::mach_cli::image_view::ImageView;
-pub use crate::generated::mach_cli::image_view::Outcome;
+pub use crate::generated::mach_cli::image_view::{ImageView, Outcome};
 pub use crate::generated::mach_cli::images_view::ImagesView;
-pub use crate::generated::mach_cli::items::InForm;
-pub use crate::generated::mach_cli::items::ItemList;
-pub use crate::generated::mach_cli::json::array::comma_before;
-pub use crate::generated::mach_cli::json::array::print_array;
-pub use crate::generated::mach_cli::json::array::print_empty;
-pub use crate::generated::mach_cli::json::array::print_end;
-pub use crate::generated::mach_cli::json::array::print_end_past;
-pub use crate::generated::mach_cli::json::array::print_member;
-pub use crate::generated::mach_cli::json::array::then;
-pub use crate::generated::mach_cli::json::text::JsonString;
-pub use crate::generated::mach_cli::json::text::StringOrNull;
-pub use crate::generated::mach_cli::json::text::if_not_empty;
-pub use crate::generated::mach_cli::json::text::name_in_field;
+pub use crate::generated::mach_cli::items::{InForm, ItemList};
+pub use crate::generated::mach_cli::json::array::{
+    comma_before, print_array, print_empty, print_end, print_end_past, print_member, then,
+};
+pub use crate::generated::mach_cli::json::text::{
+    JsonString, StringOrNull, if_not_empty, name_in_field,
+};
 pub use crate::generated::mach_cli::label::Label;
-pub use crate::generated::mach_cli::listing::ListProgress;
-pub use crate::generated::mach_cli::listing::Listing;
-pub use crate::generated::mach_cli::listing::count_rows;
-pub use crate::generated::mach_cli::listing::print_cut;
-pub use crate::generated::mach_cli::listing::print_listing;
-pub use crate::generated::mach_cli::listing::print_past;
-pub use crate::generated::mach_cli::listing::print_rows;
+pub use crate::generated::mach_cli::listing::{
+    ListProgress, Listing, count_rows, print_cut, print_listing, print_rows,
+};
 pub use crate::generated::mach_cli::misuse::Misuse;
-pub use crate::generated::mach_cli::named::Others;
-pub use crate::generated::mach_cli::named::names_of;
+pub use crate::generated::mach_cli::named::{Others, names_of};
 pub use crate::generated::mach_cli::names::Names;
-pub use crate::generated::mach_cli::options::Format;
-pub use crate::generated::mach_cli::options::Options;
-pub use crate::generated::mach_cli::options::OwnOptions;
-pub use crate::generated::mach_cli::options::SharedOnly;
-pub use crate::generated::mach_cli::origins::library_short_name;
-pub use crate::generated::mach_cli::origins::ordinal_of;
-pub use crate::generated::mach_cli::origins::origin_of;
-pub use crate::generated::mach_cli::origins::provider_name;
+pub use crate::generated::mach_cli::options::{Format, Options, OwnOptions, SharedOnly};
+pub use crate::generated::mach_cli::origins::{
+    library_short_name, ordinal_of, origin_of, provider_name,
+};
 pub use crate::generated::mach_cli::painted::Painted;
-pub use crate::generated::mach_cli::parts::Parts;
-pub use crate::generated::mach_cli::parts::items_shown;
 pub use crate::generated::mach_cli::parts::name::PartName;
-pub use crate::generated::mach_cli::parts::parts_of;
-pub use crate::generated::mach_cli::parts::selection::is_for;
 pub use crate::generated::mach_cli::parts::shown::ShownPart;
-pub use crate::generated::mach_cli::parts::shown::shown_part;
-pub use crate::generated::mach_cli::program::Output;
-pub use crate::generated::mach_cli::program::Program;
+pub use crate::generated::mach_cli::parts::{Parts, items_shown};
+pub use crate::generated::mach_cli::program::{Output, Program};
 pub use crate::generated::mach_cli::progress::Progress;
-pub use crate::generated::mach_cli::record_fields::RecordFields;
-pub use crate::generated::mach_cli::record_fields::rights;
-pub use crate::generated::mach_cli::refusal::Refusal;
-pub use crate::generated::mach_cli::refusal::complain;
-pub use crate::generated::mach_cli::refusal::refusal_of;
-pub use crate::generated::mach_cli::section_names::section_name_with;
-pub use crate::generated::mach_cli::section_names::stretch_name;
-pub use crate::generated::mach_cli::signing::diverse_by;
-pub use crate::generated::mach_cli::signing::diversity_by;
-pub use crate::generated::mach_cli::signing::has_auth;
-pub use crate::generated::mach_cli::signing::key_by;
-pub use crate::generated::mach_cli::signing::rebase_type;
-pub use crate::generated::mach_cli::sink::Json;
-pub use crate::generated::mach_cli::sink::NmText;
-pub use crate::generated::mach_cli::sink::Sink;
-pub use crate::generated::mach_cli::sink::Text;
+pub use crate::generated::mach_cli::record_fields::{RecordFields, rights};
+pub use crate::generated::mach_cli::refusal::{Refusal, complain, refusal_of};
+pub use crate::generated::mach_cli::section_names::{section_name_with, stretch_name};
+pub use crate::generated::mach_cli::signing::{
+    diverse_by, diversity_by, has_auth, key_by, rebase_type,
+};
+pub use crate::generated::mach_cli::sink::{Json, NmText, Sink, Text};
 pub use crate::generated::mach_cli::terminal::ForTerminal;
 pub use crate::generated::mach_cli::titled::Titled;
-pub use crate::generated::mach_cli::word::NoText;
-pub use crate::generated::mach_cli::word::Word;
+pub use crate::generated::mach_cli::word::{NoText, Word};
 
 // What an image has at an address, and names as they are printed.
 pub use crate::generated::mach_cli::address::view::{AddressLinesOf, AddressObjectsOf};

@@ -6,15 +6,17 @@ use crate::generated::mach_cli::{ItemList, Outcome};
 use crate::generated::machinfo::command_rows::CommandRows;
 use crate::generated::machinfo::commands::NumberedCommands;
 use crate::generated::machinfo::lists::{
-    BuildTools, DataInCode, FunctionStarts, HardeningFindings, IndirectSymbols, Libraries,
-    LinkerOptions, Rebases, Slots, WeakBinds,
+    BuildTools, DataInCode, FunctionStarts, IndirectSymbols, Libraries, LinkerOptions, Rebases,
+    Slots, WeakBinds,
 };
 use crate::generated::machinfo::notes::NumberedNotes;
+use crate::generated::machinfo::own_names::OwnNames;
 use crate::generated::machinfo::parts::{
     EntryPoint, NumberedPaths, NumberedSegments, OneHeader, UuidRows,
 };
 use crate::generated::machinfo::providers::ProvidedSymbols;
 use crate::generated::machinfo::sections::CountedSections;
+use crate::generated::machinfo::verdicts::{ExplainedFindings, HardeningFindings};
 use crate::generated::machinfo::word::Word;
 use crate::shim::io;
 use crate::shim::io::Write;
@@ -87,6 +89,7 @@ pub fn use_list<U: ListUse, O: Write>(
             how.of_list(list, past, out)
         }
         Word::Libraries => how.of_list(Libraries(image.libraries()), 0, out),
+        Word::Id => how.of_list(OwnNames::of(image), 0, out),
         Word::Rebases => how.of_list(Rebases(image.rebases()), 0, out),
         Word::Weak => how.of_list(WeakBinds(image.weak_binds()), 0, out),
         Word::Segments => how.of_list(NumberedSegments::of(image), 0, out),
@@ -99,5 +102,6 @@ pub fn use_list<U: ListUse, O: Write>(
         Word::Entry => how.of_list(EntryPoint::of(image), 0, out),
         Word::Header => how.of_list(OneHeader(Some(image.header)), 0, out),
         Word::Security => how.of_list(HardeningFindings(Findings::of(image)), 0, out),
+        Word::SecurityExplained => how.of_list(ExplainedFindings(Findings::of(image)), 0, out),
     }
 }

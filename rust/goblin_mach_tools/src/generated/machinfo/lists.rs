@@ -7,11 +7,11 @@ use crate::generated::mach_cli::{
     rebase_type,
 };
 use crate::generated::machinfo::notes::{NumberedNote, NumberedNotes};
+use crate::generated::machinfo::own_names::version_columns;
 use crate::generated::machinfo::providers::{Provided, ProvidedSymbols};
 use crate::generated::machinfo::text::tool_word;
 use crate::shim::io;
 use crate::shim::io::Write;
-use goblin_mach::audit::{Finding, Findings};
 use goblin_mach::load_command::{BuildToolVersion, DataInCodeEntry};
 use goblin_mach::slots::{
     IndirectSymbol, IndirectSymbolIterator, SlotIterator, SlotKind, SlotSymbol, SymbolSlot,
@@ -297,7 +297,8 @@ impl<'a, 'b> ItemList for Libraries<'a, 'b> {
     }
 
     fn write_item<F: FieldsForm, O: Write>(library: &Library<'a>, out: &mut O) -> io::Result<()> {
-        write_library::<F, O>(*library, out)
+        let versions = version_columns(library.current_version, library.compatibility_version);
+        F::write_both(&library_fields(*library), &versions, out)
     }
 }
 
@@ -318,6 +319,7 @@ fn is_plain(how: LibraryAttributes, is_lazy: bool) -> bool {
 }
 
 // Returns the fields of a library: its name and how it is used; an object also has its versions and its place in the image's list.
+// A line of the list has the versions in the columns 2 and 3.
 fn library_fields<'a>(library: Library<'a>) -> [Field<'a>; 10] {
     let how = library.attributes;
     let is_lazy = is_lazy_kind(library.kind);
@@ -326,14 +328,14 @@ fn library_fields<'a>(library: Library<'a>) -> [Field<'a>; 10] {
     [
         Field::of_object("compatibility_version", least),
         Field::of_object("current_version", current),
-        flag_field("is_delayed", how.is_delayed, "delayed", 5),
-        flag_field("is_lazy", is_lazy, "lazy", 6),
-        flag_field("is_reexport", how.is_reexport, "reexport", 3),
-        flag_field("is_upward", how.is_upward, "upward", 4),
-        flag_field("is_weak", how.is_weak, "weak", 2),
+        flag_field("is_delayed", how.is_delayed, "delayed", 7),
+        flag_field("is_lazy", is_lazy, "lazy", 8),
+        flag_field("is_reexport", how.is_reexport, "reexport", 5),
+        flag_field("is_upward", how.is_upward, "upward", 6),
+        flag_field("is_weak", how.is_weak, "weak", 4),
         Field::new("name", Value::Text(library.name), 1),
         Field::of_object("ordinal", Value::Number(library.ordinal as u64)),
-        Field::of_line(Value::Text("-"), column_if(is_plain(how, is_lazy), 7)),
+        Field::of_line(Value::Text("-"), column_if(is_plain(how, is_lazy), 9)),
     ]
 }
 
@@ -423,35 +425,5 @@ fn strong_fields<'a>(name: &'a str) -> [Field<'a>; 2] {
     [
         flag_field("is_strong", true, "strong", 1),
         Field::new("name", Value::Text(name), 2),
-    ]
-}
-
-/// How an image is hardened.
-pub struct HardeningFindings<'a, 'b>(pub Findings<'a, 'b>);
-
-impl<'a, 'b> ItemList for HardeningFindings<'a, 'b> {
-    type Item = Finding;
-
-    fn next_item(&mut self) -> Option<Result<Finding>> {
-        self.0.take_next()
-    }
-
-    fn write_item<F: FieldsForm, O: Write>(finding: &Finding, out: &mut O) -> io::Result<()> {
-        F::write(&finding_fields(*finding), out)
-    }
-}
-
-// Returns the fields of a finding: the name of the verdict, whether it holds, and what `yes` means.
-fn finding_fields(finding: Finding) -> [Field<'static>; 3] {
-    let (name, meaning) = finding.verdict.words();
-    let is_so = Value::Flag {
-        is_so: finding.is_so,
-        yes: "yes",
-        no: "no ",
-    };
-    [
-        Field::new("is_so", is_so, 2),
-        Field::new("meaning", Value::Text(meaning), 3),
-        Field::new("name", Value::Text(name), 1).wide(22),
     ]
 }

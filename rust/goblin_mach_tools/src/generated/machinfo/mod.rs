@@ -2,7 +2,7 @@
 //! Prints a summary of a Mach-O image: what it is, how it is signed, and how many items its lists have.
 //!
 //! With a word it prints one list instead, an item a line: load commands, function starts, stubs and pointers, indirect symbols,
-//! data in code, linker options, tools, notes, providers of symbols, libraries, rebases, weak binds, segments, sections,
+//! data in code, linker options, tools, notes, providers of symbols, libraries, the own name, rebases, weak binds, segments, sections,
 //! UUIDs, run paths, the entry point, the header, how it is hardened, exports or imports. Of a fat file it prints that of each entry, or of the
 //! entries for one cpu, under a line that says which. With `at` and an address it prints what each image has there.
 //!
@@ -38,22 +38,26 @@ mod list;
 mod list_lines;
 mod lists;
 mod notes;
+mod own_names;
 mod part_fields;
 mod parts;
 mod providers;
 mod registers;
 mod sections;
+mod verdicts;
 
 // What a call selects.
+mod arguments;
 mod selection;
 mod word;
 
-use crate::generated::mach_cli::{
-    Call, ImageFiles, Misuse, Options, Others, Program, SharedOnly, Titled,
+use crate::generated::mach_cli::{Call, ImageFiles, Misuse, Options, Others, Program, Titled};
+use crate::generated::machinfo::arguments::InfoOptions;
+use crate::generated::machinfo::selection::{
+    Selection, has_small_letters, prints_elsewhere, selection_of,
 };
-use crate::generated::machinfo::selection::{Selection, has_small_letters, selection_of};
 use crate::generated::machinfo::word::Choice;
-use crate::shim::io::{BufWriter, Write};
+use crate::shim::io::{BufWriter, IsTerminal, Write};
 use json::InfoObjects;
 use std::process::ExitCode;
 use views::InfoLines;
@@ -66,15 +70,16 @@ const PROGRAM: Program = Program {
     about: "machinfo prints a summary of Mach-O files, or with a word one of their lists, a
 line for each item.
 ",
-    usage: "usage: machinfo [--json] [--limit N] [--arch NAME | --cputype 0xN]
-                [--names FILE] [-0] [--color WHEN] [WORD] FILE..
+    usage: "usage: machinfo [--headings] [--explain] [--json] [--limit N]
+                [--arch NAME | --cputype 0xN] [--names FILE] [-0]
+                [--color WHEN] [WORD] FILE..
        machinfo at ADDRESS | --at ADDRESS [--json]
                 [--arch NAME | --cputype 0xN] [--names FILE] [-0]
                 [--color WHEN] FILE..
        machinfo -h | --help | --version
 WORD: commands, starts, slots, indirect, data, options, tools, notes, providers,
-      libraries, rebases, weak, segments, sections, uuid, rpaths, entrypoint,
-      header, security, exports, imports
+      libraries, id, rebases, weak, segments, sections, uuid, rpaths,
+      entrypoint, header, security, exports, imports
 ",
     version: "machinfo 0.3.0\n",
     options: Options {
@@ -91,7 +96,8 @@ WORD: commands, starts, slots, indirect, data, options, tools, notes, providers,
   tools                     print the build tools
   notes                     print the notes
   providers                 print which library provides each undefined symbol
-  libraries                 print the libraries and how each is used
+  libraries                 print the libraries, their versions and their use
+  id                        print the name and versions of a library itself
   rebases                   print the rebases
   weak                      print the weak binds
   segments                  print the segments
@@ -104,7 +110,9 @@ WORD: commands, starts, slots, indirect, data, options, tools, notes, providers,
   exports                   print what the image exports
   imports                   print what dyld binds
 ",
-    flags: "      --limit N             print at most N rows per file
+    flags: "      --headings            print a heading before the lines of a list
+      --explain             print what turns each verdict of security on
+      --limit N             print at most N rows per file
 ",
     examples: "  machinfo prog                 a summary
   machinfo imports prog         what dyld binds
@@ -121,12 +129,12 @@ pub fn main(rt: HostRuntime) -> ExitCode {
 // Runs the program with its words.
 fn start(rt: &HostRuntime) -> Result<u8, u8> {
     let words = PROGRAM.words(rt)?;
-    let call = PROGRAM.call(rt, SharedOnly, &words)?;
+    let call = PROGRAM.call(rt, InfoOptions::NONE, &words)?;
     answer(rt, &call)
 }
 
 // Runs a parsed call.
-fn answer(rt: &HostRuntime, call: &Call<'_, SharedOnly>) -> Result<u8, u8> {
+fn answer(rt: &HostRuntime, call: &Call<'_, InfoOptions>) -> Result<u8, u8> {
     let mut out = PROGRAM.output(rt, call.color, call.format)?;
     show_call(rt, call, &mut out)
 }
@@ -134,7 +142,7 @@ fn answer(rt: &HostRuntime, call: &Call<'_, SharedOnly>) -> Result<u8, u8> {
 // Shows what the arguments of a call select, of all files that it names, and returns the worst status.
 fn show_call<W: Write>(
     rt: &HostRuntime,
-    call: &Call<'_, SharedOnly>,
+    call: &Call<'_, InfoOptions>,
     out: &mut BufWriter<Titled<W>>,
 ) -> Result<u8, u8> {
     let words = call.words.as_slice();
@@ -148,12 +156,12 @@ fn show_call<W: Write>(
     if let Some(misuse) = misspelled(rt, selection) {
         return Err(PROGRAM.bad_usage(rt, misuse));
     }
-    let shown = shown_by(call, selection.choice);
+    let shown = shown_by(call, selection.choice, rt.stdout().is_terminal());
     show(rt, &shown, selection.files, &call.others, out)
 }
 
-// Returns what is wrong with a first file before others that is nearly a word, if nothing is selected: it is of small letters alone,
-// and similar to a word.
+// Returns what is wrong with a first file before others, if nothing is selected: it is of small letters alone, and it is a list of
+// another program or similar to a word.
 fn misspelled<'a>(rt: &HostRuntime, selection: Selection<'_, 'a>) -> Option<Misuse<'a>> {
     let [first, _, ..] = selection.files else {
         return None;
@@ -161,18 +169,33 @@ fn misspelled<'a>(rt: &HostRuntime, selection: Selection<'_, 'a>) -> Option<Misu
     if selection.choice.is_some() || !has_small_letters(first.as_bytes()) {
         return None;
     }
+    if let Some(instead) = prints_elsewhere(first) {
+        return Some(Misuse::NoList {
+            word: first,
+            instead,
+        });
+    }
     let misuse = Misuse::UnknownWord(first);
     let meant = PROGRAM.meant(misuse);
     if meant.is_some() { Some(misuse) } else { None }
 }
 
-// Returns how a call shows its files: what it selects, or else the summary, as lines or as objects.
+// Returns how a call shows its files: what it selects, or else the summary, as lines or as objects. A terminal has headings.
 fn shown_by(
-    call: &Call<'_, SharedOnly>,
+    call: &Call<'_, InfoOptions>,
     choice: Option<Choice>,
+    is_terminal: bool,
 ) -> ImageFiles<InfoLines, InfoObjects> {
-    let (lines, objects) = (InfoLines { choice }, InfoObjects { choice });
-    ImageFiles::of(PROGRAM, call, DEFAULT_LIMIT, lines, objects)
+    let lines = InfoLines {
+        choice: explained(call.own.is_explained, choice),
+        has_headings: call.own.has_headings || is_terminal,
+    };
+    ImageFiles::of(PROGRAM, call, DEFAULT_LIMIT, lines, InfoObjects { choice })
+}
+
+// Returns what is shown in place of a choice, if items are explained.
+fn explained(is_explained: bool, choice: Option<Choice>) -> Option<Choice> {
+    Some(choice?.explained(is_explained))
 }
 
 // Shows files in order, and returns the worst status.

@@ -72,6 +72,29 @@ fn files_named<'a, 'b>(arguments: &'a [&'b str]) -> &'a [&'b str] {
     }
 }
 
+/// Returns what prints the list with this name, if another program does.
+///
+/// <details><summary>Proved</summary>
+///
+/// - `text_in result ≡ words.prints_among words.lists_elsewhere word`
+///
+/// </details>
+pub fn prints_elsewhere(word: &str) -> Option<&'static str> {
+    match word {
+        "symbols" => Some("machsyms prints symbols"),
+        "fixups" => Some("machfixups prints fixups"),
+        "binds" => Some("machfixups --binds prints binds"),
+        "chains" => Some("machfixups --chains prints chains"),
+        "signature" => Some("machsign prints the signature"),
+        "entitlements" => Some("machsign --entitlements prints entitlements"),
+        "requirements" => Some("machsign prints requirements"),
+        "faults" => Some("machaudit prints faults"),
+        "entries" => Some("machfat list prints entries"),
+        "members" => Some("machfat members prints members"),
+        _ => None,
+    }
+}
+
 /// Whether all bytes of a text are small letters.
 ///
 /// <details><summary>Proved</summary>

@@ -24,6 +24,8 @@ use goblin_mach::{AllStretches, MachO};
 #[derive(Clone, Copy)]
 pub struct InfoLines {
     pub choice: Option<Choice>,
+    /// The lines of a list follow a heading.
+    pub has_headings: bool,
 }
 
 impl ImageView for InfoLines {
@@ -35,10 +37,14 @@ impl ImageView for InfoLines {
         left: usize,
         out: &mut O,
     ) -> Result<Outcome, ShowFailure> {
+        let has_headings = self.has_headings;
         match self.choice {
-            Some(Choice::Word(word)) => Ok(print_list(word, image, limit, left, out)?),
-            Some(Choice::Exports) => print_exports(image, limit, left, out),
-            Some(Choice::Imports) => print_imports(image, limit, left, out),
+            Some(Choice::Word(word)) => {
+                print_heading(has_headings, word.heading(), out)?;
+                Ok(print_list(word, image, limit, left, out)?)
+            }
+            Some(Choice::Exports) => print_exports(has_headings, image, limit, left, out),
+            Some(Choice::Imports) => print_imports(has_headings, image, limit, left, out),
             Some(Choice::At(address)) => {
                 let line = AddressLinesOf {
                     address,
@@ -50,6 +56,14 @@ impl ImageView for InfoLines {
             None => Ok(print_summary(image, limit, left, out)?),
         }
     }
+}
+
+// Prints the line of a heading, if there is one.
+fn print_heading<O: Write>(has_headings: bool, heading: &str, out: &mut O) -> io::Result<()> {
+    if has_headings {
+        writeln!(out, "{heading}")?;
+    }
+    Ok(())
 }
 
 // Prints the rows of a word's list, at most `left` of them; a row that can't be read is a line that says why. Returns whether all
@@ -85,12 +99,14 @@ fn print_list<O: Write>(
 
 // Prints the exports of an image as a walk meets them, at most `left` of them. A fault of the trie is the last line.
 fn print_exports<O: Write>(
+    has_headings: bool,
     image: &MachO<'_>,
     limit: usize,
     left: usize,
     out: &mut O,
 ) -> Result<Outcome, ShowFailure> {
     let walk = walk_of(image)?;
+    print_heading(has_headings, "ADDRESS     KIND         WEAK NAME", out)?;
     let shown = print_exports_of(ExportForm::Lines, image.base(), walk, left, out)?;
     print_cut(limit, shown.more, out)?;
     Ok(Outcome {
@@ -101,12 +117,15 @@ fn print_exports<O: Write>(
 
 // Prints what dyld binds in an image, at most `left` binds; one that can't be read is a line that says why.
 fn print_imports<O: Write>(
+    has_headings: bool,
     image: &MachO<'_>,
     limit: usize,
     left: usize,
     out: &mut O,
 ) -> Result<Outcome, ShowFailure> {
     let parts = AllStretches::of_image(image)?;
+    let heading = "ADDRESS     SEGMENT      SECTION          LIBRARY              SYMBOL";
+    print_heading(has_headings, heading, out)?;
     let list = ImportList {
         parts: &parts,
         bindings: image.bindings(),

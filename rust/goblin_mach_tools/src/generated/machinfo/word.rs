@@ -40,6 +40,8 @@ pub enum Word {
     Providers,
     /// Its libraries.
     Libraries,
+    /// Its name as a library.
+    Id,
     /// Its rebases.
     Rebases,
     /// Its weak binds.
@@ -58,6 +60,8 @@ pub enum Word {
     Header,
     /// How it is hardened.
     Security,
+    /// The same, and what turns each on.
+    SecurityExplained,
 }
 
 impl Choice {
@@ -73,6 +77,20 @@ impl Choice {
             "exports" => Some(Choice::Exports),
             "imports" => Some(Choice::Imports),
             _ => Some(Choice::Word(Word::named(text)?)),
+        }
+    }
+
+    /// Returns the choice of the list that explains the items of this one, if that is asked for and there is one, and else itself.
+    ///
+    /// <details><summary>Proved</summary>
+    ///
+    /// - `result ≡ explained_choice is_explained self`
+    ///
+    /// </details>
+    pub fn explained(self, is_explained: bool) -> Choice {
+        match self {
+            Choice::Word(word) if is_explained => Choice::Word(word.explained()),
+            choice => choice,
         }
     }
 }
@@ -97,6 +115,7 @@ impl Word {
             "notes" => Some(Word::Notes),
             "providers" => Some(Word::Providers),
             "libraries" => Some(Word::Libraries),
+            "id" => Some(Word::Id),
             "rebases" => Some(Word::Rebases),
             "weak" => Some(Word::Weak),
             "segments" => Some(Word::Segments),
@@ -130,6 +149,7 @@ impl Word {
             Word::Notes => "notes",
             Word::Providers => "providers",
             Word::Libraries => "libraries",
+            Word::Id => "id",
             Word::Rebases => "rebases",
             Word::Weak => "weak",
             Word::Segments => "segments",
@@ -139,6 +159,53 @@ impl Word {
             Word::Entry => "entrypoint",
             Word::Header => "header",
             Word::Security => "security",
+            Word::SecurityExplained => "security",
+        }
+    }
+
+    /// Returns the heading of the word's list: the name of each column.
+    ///
+    /// <details><summary>Proved</summary>
+    ///
+    /// - `result ≡ heading_of self`
+    ///
+    /// </details>
+    pub fn heading(self) -> &'static str {
+        match self {
+            Word::Commands => "NUM OFFSET  SIZE COMMAND  FIELDS",
+            Word::CommandsAlone => "NUM OFFSET  SIZE COMMAND  FIELDS",
+            Word::Starts => "ADDRESS",
+            Word::Slots => "ADDRESS KIND SYMBOL",
+            Word::Indirect => "KIND SYMBOL",
+            Word::Data => "OFFSET LENGTH KIND",
+            Word::Options => "COMMAND OPTION",
+            Word::Tools => "COMMAND TOOL VERSION",
+            Word::Notes => "COMMAND OWNER OFFSET SIZE",
+            Word::Providers => "SYMBOL PROVIDER ORDINAL",
+            Word::Libraries => "NAME CURRENT COMPATIBLE USE",
+            Word::Id => "NAME CURRENT COMPATIBLE",
+            Word::Rebases => "ADDRESS TYPE TARGET SIGNING",
+            Word::Weak => "ADDRESS ADDEND WEAK SYMBOL",
+            Word::Segments => {
+                "SEGMENT      ADDRESS     SIZE        OFFSET     FILE-SIZE  INI MAX FLAGS"
+            }
+            Word::Sections => {
+                "NUM SEGMENT      SECTION          ADDRESS     SIZE     OFFSET   TYPE STUBS"
+            }
+            Word::Uuid => "KEY UUID CPU",
+            Word::Rpaths => "NUM PATH",
+            Word::Entry => "ADDRESS SEGMENT SECTION SYMBOL",
+            Word::Header => "CPU KIND FLAGS  FIELDS",
+            Word::Security => "VERDICT                IS  MEANING",
+            Word::SecurityExplained => "VERDICT                IS  MEANING",
+        }
+    }
+
+    /// Returns the word of the list that explains the items of this one, if there is one, and else itself.
+    fn explained(self) -> Word {
+        match self {
+            Word::Security => Word::SecurityExplained,
+            word => word,
         }
     }
 

@@ -21,20 +21,20 @@ pub fn is_for(cpu: Cpu, place: &ItemPlace) -> bool {
     }
 }
 
-/// Whether there are parts, and none of them is selected.
+/// Whether a cpu is selected, and none of these parts of what is no archive is for it.
 ///
 /// <details><summary>Proved</summary>
 ///
-/// - `result ≡ are_missed cpu (parts_left parts.entry)`
+/// - `result ≡ are_missed cpu is_archive (parts_left parts.entry)`
 ///
 /// </details>
-pub fn is_missed(cpu: Cpu, parts: Parts<'_>) -> bool {
-    let (mut all, room) = (parts, 0);
-    let mut selected = SelectedParts { cpu, room, parts };
-    match all.next() {
-        None => false,
-        Some(_) => selected.next_selected().is_none(),
-    }
+pub fn is_missed(cpu: Cpu, is_archive: bool, parts: Parts<'_>) -> bool {
+    let mut selected = SelectedParts {
+        cpu,
+        room: 0,
+        parts,
+    };
+    !is_archive && cpu.is_chosen() && selected.next_selected().is_none()
 }
 
 /// Whether more parts are selected than a limit allows.
