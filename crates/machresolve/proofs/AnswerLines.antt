@@ -1,12 +1,12 @@
 -- Each answer is one line.
-use Rattle.std.proofs.Common.{◌≡◌, ◌++◌, ℕ, Bool, List, true, false, refl, rules}
+use Rattle.std.proofs.Common.{◌≡◌, ◌++◌, Bool, true, false, refl, rules}
 use Rattle.std.specs.Prelude.{codes}
 use Rattle.mach_cli.specs.Escapes.{has_no_feed, IsOneLine}
 use Rattle.mach_cli.proofs.OneLine.{no_feeds, line-end}
 use Rattle.mach_parts.specs.Bindings.{Provider, of_library, itself, main_executable, flat, weak_lookup}
 use Rattle.mach_resolve.specs.Answers.{Answer}
 use Rattle.mach_resolve.specs.Follow.{SymbolPlace, found, leads_back, no_library, missing, not_given, not_found, no_main}
-use Rattle.machresolve.specs.Lines.{answer_text, found_text, place_text, provider_text, text_before_place, weak_text}
+use Rattle.machresolve.specs.Lines.{answer_text, place_text, provider_text, text_before_place, weak_text}
 
 no_feed-provider : (p : Provider) → has_no_feed (provider_text p) ≡ true
 no_feed-provider (of_library ordinal name) = search (no_feeds, rules)
@@ -15,18 +15,14 @@ no_feed-provider main_executable = refl
 no_feed-provider flat = refl
 no_feed-provider weak_lookup = refl
 
-no_feed-found : (file : List ℕ) (address : ℕ) (is_absolute : Bool) → has_no_feed (found_text file address is_absolute) ≡ true
-no_feed-found file address true = search (no_feeds, rules)
-no_feed-found file address false = search (no_feeds, rules)
-
-no_feed-place : (p : SymbolPlace) → has_no_feed (place_text p) ≡ true
-no_feed-place (found number file address is_absolute) = no_feed-found file address is_absolute
-no_feed-place (leads_back library) = search (no_feeds, rules)
-no_feed-place (no_library library) = search (no_feeds, rules)
-no_feed-place (missing library) = search (no_feeds, rules)
-no_feed-place (not_given library reexported) = search (no_feeds, rules)
-no_feed-place not_found = refl
-no_feed-place no_main = refl
+no_feed-place : (provider : Provider) (p : SymbolPlace) → has_no_feed (place_text provider p) ≡ true
+no_feed-place provider (found number file address is_absolute) = search (no_feeds, rules)
+no_feed-place provider (leads_back library) = search (no_feeds, rules)
+no_feed-place provider (no_library library) = search (no_feeds, rules)
+no_feed-place provider (missing library) = search (no_feeds, rules)
+no_feed-place provider (not_given library reexported) = search (no_feeds, rules)
+no_feed-place provider not_found = refl
+no_feed-place provider no_main = refl
 
 no_feed-weak : (is_weak : Bool) → has_no_feed (weak_text is_weak) ≡ true
 no_feed-weak true = refl

@@ -4,12 +4,10 @@ use Rattle.std.specs.Prelude.{codes}
 use Rattle.std.proofs.lemmas.List.{append-nil, append_assoc}
 use Rattle.std.specs.Io.KnownBytes.{Appends}
 use Rattle.mach_base.proofs.Written.{Appends-none}
-use Rattle.mach_cli.specs.Escapes.{escaped_text}
 use Rattle.mach_resolve.specs.Answers.{Answer}
-use Rattle.mach_resolve.specs.Follow.{not_given}
 use Rattle.mach_resolve.specs.Note.{Note}
 use Rattle.machresolve.specs.Report.{Outcome}
-use Rattle.machresolve.specs.Lines.{ResolveCall, place_text, answer_text, lines_of, entry_heading}
+use Rattle.machresolve.specs.Lines.{ResolveCall, answer_text, lines_of, entry_heading}
 use Rattle.machresolve.specs.Lines.{entry_text, entries_text, note_text, message_line, message_lines}
 
 pub lines_push : (xs : List Answer) (a : Answer) → lines_of (xs ++ a ∷ []) ≡ lines_of xs ++ (answer_text a ++ codes "\n")
@@ -17,18 +15,6 @@ lines_push [] a = append-nil (answer_text a ++ codes "\n")
 lines_push (x ∷ xs) a =
     ap (λ t. answer_text x ++ codes "\n" ++ t) (lines_push xs a)
     ∙ sym (append_assoc (answer_text x ++ codes "\n") (lines_of xs) (answer_text a ++ codes "\n"))
-
--- the text of a gap, with its parts bracketed from the right, as they are written
-pub gap_text : (library reexported : List ℕ)
-    → codes "not found; " ++ (escaped_text library ++ (codes " re-exports " ++ (escaped_text reexported ++ codes ", which is not given")))
-    ≡ place_text (not_given library reexported)
-gap_text library reexported =
-    let of = escaped_text library in
-    let to = escaped_text reexported in
-    let front = codes "not found; " ++ of in
-    let tail = to ++ codes ", which is not given" in
-    sym (append_assoc (front ++ codes " re-exports ") to (codes ", which is not given")
-    ∙ (append_assoc front (codes " re-exports ") tail ∙ append_assoc (codes "not found; ") of (codes " re-exports " ++ tail)))
 
 pub said_push : (call : ResolveCall) (ns : List Note) (n : Note) → message_lines call (ns ++ n ∷ []) ≡ message_lines call ns ++ message_line (note_text call n)
 said_push call [] n = append-nil (message_line (note_text call n))

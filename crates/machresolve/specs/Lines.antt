@@ -1,10 +1,11 @@
 -- The lines that are printed, and the messages about unused libraries and refused files.
-use Rattle.std.specs.Prelude.{◌+◌, ℕ, Bool, true, false, List, [], ◌∷◌, ◌++◌, codes, get_or, if◌then◌else◌}
+use Rattle.std.specs.Prelude.{◌+◌, ◌==◌, ℕ, Bool, false, List, [], ◌∷◌, ◌++◌, codes, bytes_eq, get_or, if◌then◌else◌}
 use Rattle.std.specs.Fmt.{digits, decimal}
 use Rattle.mach_base.specs.declared.error.Error.{Error}
 use Rattle.mach_parts.specs.Bindings.{Provider, of_library, itself, main_executable, flat, weak_lookup}
 use Rattle.mach_cli.specs.Cpus.{cpu_words}
 use Rattle.mach_cli.specs.Escapes.{escaped_text}
+use Rattle.mach_cli.specs.Fields.{word_if}
 use Rattle.mach_cli.specs.declared.cpu.Cpu.{Cpu}
 use Rattle.mach_cli.specs.declared.cpu.Cpu.TheVariants.{Number}
 use Rattle.mach_resolve.specs.Follow.{SymbolPlace, found, leads_back, no_library, missing, not_given, not_found, no_main}
@@ -21,23 +22,38 @@ provider_text main_executable = codes "main-executable"
 provider_text flat = codes "flat-namespace"
 provider_text weak_lookup = codes "weak-lookup"
 
--- an address in a file
-abbrev pub address_in_file_text : ℕ → List ℕ → List ℕ
-address_in_file_text address file = codes "0x" ++ digits 16 false address ++ codes " in " ++ escaped_text file
+-- whether the provider is the library with this name
+abbrev pub provider_is_library : Provider → List ℕ → Bool
+provider_is_library (of_library ordinal name) library = bytes_eq name library
+provider_is_library provider library = false
 
-abbrev pub found_text : List ℕ → ℕ → Bool → List ℕ
-found_text file address false = address_in_file_text address file
-found_text file address true = codes "absolute " ++ address_in_file_text address file
+-- whether the provider is the file with this number and this name: that library, or this image, which is file 0
+abbrev pub provider_is_file : Provider → ℕ → List ℕ → Bool
+provider_is_file (of_library ordinal name) number file = bytes_eq name file
+provider_is_file itself number file = number == 0
+provider_is_file provider number file = false
 
-abbrev pub place_text : SymbolPlace → List ℕ
-place_text (found number file address is_absolute) = found_text file address is_absolute
-place_text (leads_back library) = codes "leads back to " ++ escaped_text library
-place_text (no_library library) = codes "no library " ++ escaped_text library
-place_text (missing library) = codes "missing in " ++ escaped_text library
-place_text (not_given library reexported) =
-    codes "not found; " ++ escaped_text library ++ codes " re-exports " ++ escaped_text reexported ++ codes ", which is not given"
-place_text not_found = codes "not found"
-place_text no_main = codes "no main executable"
+-- some words and a library, unless it is the provider, which the line has named
+abbrev pub other_text : (is_provider : Bool) → (words library : List ℕ) → List ℕ
+other_text is_provider words library = if is_provider then [] else words ++ escaped_text library
+
+-- the library that a sentence is about: `it`, if it is the provider
+abbrev pub subject_text : (is_provider : Bool) → (library : List ℕ) → List ℕ
+subject_text is_provider library = if is_provider then codes "it" else escaped_text library
+
+-- the place of a name, after its provider: a file is named unless it is the provider
+abbrev pub place_text : Provider → SymbolPlace → List ℕ
+place_text provider (found number file address is_absolute) =
+    word_if is_absolute (codes "absolute ") []
+    ++ (codes "0x" ++ (digits 16 false address ++ other_text (provider_is_file provider number file) (codes " in ") file))
+place_text provider (leads_back library) = codes "leads back" ++ other_text (provider_is_library provider library) (codes " to ") library
+place_text provider (no_library library) = codes "no library" ++ other_text (provider_is_library provider library) (codes " ") library
+place_text provider (missing library) = codes "missing" ++ other_text (provider_is_library provider library) (codes " in ") library
+place_text provider (not_given library reexported) =
+    codes "not found; "
+    ++ (subject_text (provider_is_library provider library) library ++ (codes " re-exports " ++ (escaped_text reexported ++ codes ", which is not given")))
+place_text provider not_found = codes "not found"
+place_text provider no_main = codes "no main executable"
 
 abbrev pub weak_text : Bool → List ℕ
 weak_text is_weak = if is_weak then codes "weak, " else []
@@ -57,7 +73,11 @@ front_text a = text_before_place a.place a.is_weak
 
 -- the name, its provider, and its place
 abbrev pub answer_text : Answer → List ℕ
-answer_text a = escaped_text a.name ++ codes " " ++ provider_text a.provider ++ codes " " ++ front_text a ++ place_text a.place
+answer_text a = escaped_text a.name ++ codes " " ++ provider_text a.provider ++ codes " " ++ front_text a ++ place_text a.provider a.place
+
+-- the line above the answers: what each of their lines has
+abbrev pub answers_heading : List ℕ
+answers_heading = codes "NAME PROVIDER RESULT\n"
 
 -- a line each, in order
 abbrev pub lines_of : List Answer → List ℕ
@@ -68,9 +88,9 @@ lines_of (a ∷ others) = answer_text a ++ codes "\n" ++ lines_of others
 abbrev pub more_text : ℕ → Bool → List ℕ
 more_text limit more = if more then codes "limit: " ++ (decimal limit ++ codes " shown, and there are more\n") else []
 
--- the answers of a program, and a line after them if there are more bindings
+-- the answers of a program below the heading, and a line after them if there are more bindings
 abbrev pub resolved_text : ℕ → List Answer → Bool → List ℕ
-resolved_text limit answers more = lines_of answers ++ more_text limit more
+resolved_text limit answers more = answers_heading ++ (lines_of answers ++ more_text limit more)
 
 -- the arguments of a run: a program and libraries; at most `limit` bindings are answered
 pub record ResolveCall : Type 0 where

@@ -2,14 +2,15 @@
 
 ghost use Rattle.std.specs.Prelude.{◌≡◌, Some};
 ghost use Rattle.mach_parts.specs.Bindings.{provider_view};
-ghost use Rattle.machresolve.specs.Lines.{provider_text, place_text, front_text, answer_text, nothing_words, nothing_text, note_text};
+ghost use Rattle.machresolve.specs.Lines.{provider_text, provider_is_library, provider_is_file, other_text, subject_text, place_text, front_text, answer_text};
+ghost use Rattle.machresolve.specs.Lines.{nothing_words, nothing_text, note_text};
 ghost use Rattle.mach_resolve.specs.Opened.{given_view};
 ghost use Rattle.machresolve.specs.CallViews.{call_view_of};
 ghost use Rattle.mach_resolve.specs.ResolveViews.{place_view_of, answer_view, note_view_of};
 
 use crate::call::Call;
 use goblin_mach::Provider;
-use mach_cli::{Cpu, Escaped};
+use mach_cli::{Cpu, Escaped, word_if};
 use mach_resolve::{Answer, Given, NamePlace, Note};
 use std::fmt;
 use std::fmt::{Display, Formatter, Write};
@@ -35,48 +36,100 @@ impl<'a> Display for ProviderText<'a> {
     }
 }
 
-// The place of a name, or why it has none.
-#[derive(Clone, Copy)]
-struct PlaceText<'a>(NamePlace<'a>);
+// Whether a provider is the library with this name.
+fn provider_is_library(provider: Provider<'_>, library: &str) -> bool
+    ensures { result ≡ provider_is_library (provider_view provider.entry) library.now }
+{
+    match provider {
+        Provider::Library { name, .. } => name == library,
+        _ => false,
+    }
+}
 
-impl<'a> Display for PlaceText<'a> {
-    ghost output = { λ t. Some (place_text (place_view_of t.0)) };
+// Whether a provider is the file with this number and this name: that library, or the program, which is file 0.
+fn provider_is_file(provider: Provider<'_>, number: usize, file: &str) -> bool
+    ensures { result ≡ provider_is_file (provider_view provider.entry) number file.now }
+{
+    match provider {
+        Provider::Library { name, .. } => name == file,
+        Provider::Itself => number == 0,
+        _ => false,
+    }
+}
+
+// Some words and a library, unless it is the provider, which the line has named.
+#[derive(Clone, Copy)]
+struct OtherText<'a>(bool, &'static str, &'a str);
+
+impl Display for OtherText<'_> {
+    ghost output = { λ t. Some (other_text t.0 t.1.now t.2.now) };
 
     fn fmt<W: Write>(&self, f: &mut Formatter<W>) -> fmt::Result {
-        match self.0 {
+        if self.0 {
+            return Ok(());
+        }
+        let (words, library) = (self.1, Escaped(self.2));
+        write!(f, "{words}{library}")
+    }
+}
+
+// The library that a sentence is about: `it`, if it is the provider.
+#[derive(Clone, Copy)]
+struct SubjectText<'a>(bool, &'a str);
+
+impl Display for SubjectText<'_> {
+    ghost output = { λ t. Some (subject_text t.0 t.1.now) };
+
+    fn fmt<W: Write>(&self, f: &mut Formatter<W>) -> fmt::Result {
+        if self.0 {
+            return write!(f, "it");
+        }
+        let library = Escaped(self.1);
+        write!(f, "{library}")
+    }
+}
+
+// The place of a name, or why it has none, after its provider.
+#[derive(Clone, Copy)]
+struct PlaceText<'a>(Provider<'a>, NamePlace<'a>);
+
+impl<'a> Display for PlaceText<'a> {
+    ghost output = { λ t. Some (place_text (provider_view t.0) (place_view_of t.1)) };
+
+    fn fmt<W: Write>(&self, f: &mut Formatter<W>) -> fmt::Result {
+        let provider = self.0;
+        match self.1 {
             NamePlace::Found {
+                number,
                 file,
                 address,
-                is_absolute: false,
-                ..
+                is_absolute,
             } => {
-                let file = Escaped(file);
-                write!(f, "0x{address:x} in {file}")
-            }
-            NamePlace::Found { file, address, .. } => {
-                let file = Escaped(file);
-                write!(f, "absolute 0x{address:x} in {file}")
+                let absolute = word_if(is_absolute, "absolute ", "");
+                let other = OtherText(provider_is_file(provider, number, file), " in ", file);
+                write!(f, "{absolute}0x{address:x}{other}")
             }
             NamePlace::LeadsBack { library } => {
-                let library = Escaped(library);
-                write!(f, "leads back to {library}")
+                let other = OtherText(provider_is_library(provider, library), " to ", library);
+                write!(f, "leads back{other}")
             }
             NamePlace::NoLibrary { library } => {
-                let library = Escaped(library);
-                write!(f, "no library {library}")
+                let other = OtherText(provider_is_library(provider, library), " ", library);
+                write!(f, "no library{other}")
             }
             NamePlace::Missing { library } => {
-                let library = Escaped(library);
-                write!(f, "missing in {library}")
+                let other = OtherText(provider_is_library(provider, library), " in ", library);
+                write!(f, "missing{other}")
             }
             NamePlace::NotGiven {
                 library,
                 reexported,
             } => {
-                let (library, reexported) = (Escaped(library), Escaped(reexported));
+                let subject = SubjectText(provider_is_library(provider, library), library);
+                let reexported = Escaped(reexported);
                 write!(
                     f,
-                    "not found; {library} re-exports {reexported}, which is not given"
+                    "not found; {subject} re-exports {reexported}, which is not given"
                 )
             }
             NamePlace::NotFound => write!(f, "not found"),
@@ -109,7 +162,7 @@ impl<'a> Display for AnswerText<'a> {
         let name = Escaped(self.0.name);
         let provider = ProviderText(self.0.provider);
         let front = self.front();
-        let place = PlaceText(self.0.place);
+        let place = PlaceText(self.0.provider, self.0.place);
         write!(f, "{name} {provider} {front}{place}")
     }
 }

@@ -186,7 +186,7 @@ fn print_outcome<A: Allocator, O: Write>(
     }
 }
 
-// Prints a line for each answer, in order, and a line after them if there are more bindings.
+// Prints the heading, a line for each answer, in order, and a line after them if there are more bindings.
 fn print_resolved<A: Allocator, O: Write>(
     limit: usize,
     resolved: &Resolved<'_, A>,
@@ -195,6 +195,7 @@ fn print_resolved<A: Allocator, O: Write>(
     ensures { OnOk result (Appends (O.contents out.old) (O.contents out.new)
         (resolved_text limit (map answer_view resolved.now.answers.items) resolved.now.more)) }
 {
+    writeln!(out, "NAME PROVIDER RESULT")?;
     print_answers(&resolved.answers, out)?;
     print_more(limit, resolved.more, out)
 }

@@ -11,25 +11,25 @@ const L: &[u8] = include_bytes!("data/l.macho");
 const M: &[u8] = include_bytes!("data/m.macho");
 const SELF: &[u8] = include_bytes!("data/self.macho");
 
-/// What machresolve prints for these images.
+/// What machresolve prints for these images, below its heading.
 const LINES: &str = "\
-_direct L 0x1234 in L
-_absolute L absolute 0x99 in L
-_thread L 0x50 in L
+_direct L 0x1234
+_absolute L absolute 0x99
+_thread L 0x50
 _renamed L 0x20 in M
-_missing L missing in L
-_missing L weak, missing in L
-_round L leads back to L
-_round L leads back to L
-_stub M 0x40 in M
-_far N no library N
-_far N weak, no library N
+_missing L missing
+_missing L weak, missing
+_round L leads back
+_round L leads back
+_stub M 0x40
+_far N no library
+_far N weak, no library
 _lost L no library N
 _lost_weak L no library W
-_gone W weak, no library W
-_here self 0x7 in self
-_direct L.debug no library L.debug
-_own this-image 0x70 in p.macho
+_gone W weak, no library
+_here self 0x7
+_direct L.debug no library
+_own this-image 0x70
 _again this-image 0x1234 in L
 _none this-image missing in p.macho
 ";
@@ -46,21 +46,40 @@ fn libraries() -> [Given<'static>; 3] {
     ]
 }
 
-/// The place of a name as machresolve prints it.
-fn place(place: NamePlace<'_>) -> String {
+/// Some words and a file, unless it is the provider.
+fn other(is_provider: bool, words: &str, file: &str) -> String {
+    if is_provider {
+        String::new()
+    } else {
+        format!("{words}{file}")
+    }
+}
+
+/// The place of a name as machresolve prints it after its provider.
+fn place(provider: Provider<'_>, place: NamePlace<'_>) -> String {
+    let is_library =
+        |library: &str| matches!(provider, Provider::Library { name, .. } if name == library);
     match place {
         NamePlace::Found {
+            number,
             file,
             address,
             is_absolute,
-            ..
-        } => format!(
-            "{}{address:#x} in {file}",
-            if is_absolute { "absolute " } else { "" }
-        ),
-        NamePlace::LeadsBack { library } => format!("leads back to {library}"),
-        NamePlace::NoLibrary { library } => format!("no library {library}"),
-        NamePlace::Missing { library } => format!("missing in {library}"),
+        } => {
+            let is_own = provider == Provider::Itself && number == 0;
+            let absolute = if is_absolute { "absolute " } else { "" };
+            let other = other(is_own || is_library(file), " in ", file);
+            format!("{absolute}{address:#x}{other}")
+        }
+        NamePlace::LeadsBack { library } => {
+            format!("leads back{}", other(is_library(library), " to ", library))
+        }
+        NamePlace::NoLibrary { library } => {
+            format!("no library{}", other(is_library(library), " ", library))
+        }
+        NamePlace::Missing { library } => {
+            format!("missing{}", other(is_library(library), " in ", library))
+        }
         other => format!("{other:?}"),
     }
 }
@@ -81,7 +100,8 @@ fn line(answer: &Answer<'_>) -> String {
     } else {
         ""
     };
-    format!("{} {provider} {weak}{}\n", answer.name, place(answer.place))
+    let place = place(answer.provider, answer.place);
+    format!("{} {provider} {weak}{place}\n", answer.name)
 }
 
 #[test]

@@ -2,7 +2,7 @@
 //! Answers and notes as they are printed.
 #![forbid(unsafe_code)]
 
-use crate::generated::mach_cli::{Cpu, Escaped};
+use crate::generated::mach_cli::{Cpu, Escaped, word_if};
 use crate::generated::machresolve::call::Call;
 use core::fmt;
 use core::fmt::{Display, Formatter};
@@ -28,46 +28,90 @@ impl<'a> Display for ProviderText<'a> {
     }
 }
 
-// The place of a name, or why it has none.
+// Whether a provider is the library with this name.
+fn provider_is_library(provider: Provider<'_>, library: &str) -> bool {
+    match provider {
+        Provider::Library { name, .. } => name == library,
+        _ => false,
+    }
+}
+
+// Whether a provider is the file with this number and this name: that library, or the program, which is file 0.
+fn provider_is_file(provider: Provider<'_>, number: usize, file: &str) -> bool {
+    match provider {
+        Provider::Library { name, .. } => name == file,
+        Provider::Itself => number == 0,
+        _ => false,
+    }
+}
+
+// Some words and a library, unless it is the provider, which the line has named.
 #[derive(Clone, Copy)]
-struct PlaceText<'a>(NamePlace<'a>);
+struct OtherText<'a>(bool, &'static str, &'a str);
+
+impl Display for OtherText<'_> {
+    fn fmt(&self, f: &mut Formatter<'_>) -> fmt::Result {
+        if self.0 {
+            return Ok(());
+        }
+        let (words, library) = (self.1, Escaped(self.2));
+        write!(f, "{words}{library}")
+    }
+}
+
+// The library that a sentence is about: `it`, if it is the provider.
+#[derive(Clone, Copy)]
+struct SubjectText<'a>(bool, &'a str);
+
+impl Display for SubjectText<'_> {
+    fn fmt(&self, f: &mut Formatter<'_>) -> fmt::Result {
+        if self.0 {
+            return write!(f, "it");
+        }
+        let library = Escaped(self.1);
+        write!(f, "{library}")
+    }
+}
+
+// The place of a name, or why it has none, after its provider.
+#[derive(Clone, Copy)]
+struct PlaceText<'a>(Provider<'a>, NamePlace<'a>);
 
 impl<'a> Display for PlaceText<'a> {
     fn fmt(&self, f: &mut Formatter<'_>) -> fmt::Result {
-        match self.0 {
+        let provider = self.0;
+        match self.1 {
             NamePlace::Found {
+                number,
                 file,
                 address,
-                is_absolute: false,
-                ..
+                is_absolute,
             } => {
-                let file = Escaped(file);
-                write!(f, "0x{address:x} in {file}")
-            }
-            NamePlace::Found { file, address, .. } => {
-                let file = Escaped(file);
-                write!(f, "absolute 0x{address:x} in {file}")
+                let absolute = word_if(is_absolute, "absolute ", "");
+                let other = OtherText(provider_is_file(provider, number, file), " in ", file);
+                write!(f, "{absolute}0x{address:x}{other}")
             }
             NamePlace::LeadsBack { library } => {
-                let library = Escaped(library);
-                write!(f, "leads back to {library}")
+                let other = OtherText(provider_is_library(provider, library), " to ", library);
+                write!(f, "leads back{other}")
             }
             NamePlace::NoLibrary { library } => {
-                let library = Escaped(library);
-                write!(f, "no library {library}")
+                let other = OtherText(provider_is_library(provider, library), " ", library);
+                write!(f, "no library{other}")
             }
             NamePlace::Missing { library } => {
-                let library = Escaped(library);
-                write!(f, "missing in {library}")
+                let other = OtherText(provider_is_library(provider, library), " in ", library);
+                write!(f, "missing{other}")
             }
             NamePlace::NotGiven {
                 library,
                 reexported,
             } => {
-                let (library, reexported) = (Escaped(library), Escaped(reexported));
+                let subject = SubjectText(provider_is_library(provider, library), library);
+                let reexported = Escaped(reexported);
                 write!(
                     f,
-                    "not found; {library} re-exports {reexported}, which is not given"
+                    "not found; {subject} re-exports {reexported}, which is not given"
                 )
             }
             NamePlace::NotFound => write!(f, "not found"),
@@ -96,7 +140,7 @@ impl<'a> Display for AnswerText<'a> {
         let name = Escaped(self.0.name);
         let provider = ProviderText(self.0.provider);
         let front = self.front();
-        let place = PlaceText(self.0.place);
+        let place = PlaceText(self.0.provider, self.0.place);
         write!(f, "{name} {provider} {front}{place}")
     }
 }

@@ -146,8 +146,9 @@ fn print_outcome<O: Write>(
     }
 }
 
-// Prints a line for each answer, in order, and a line after them if there are more bindings.
+// Prints the heading, a line for each answer, in order, and a line after them if there are more bindings.
 fn print_resolved<O: Write>(limit: usize, resolved: &Resolved<'_>, out: &mut O) -> io::Result<()> {
+    writeln!(out, "NAME PROVIDER RESULT")?;
     print_answers(&resolved.answers, out)?;
     print_more(limit, resolved.more, out)
 }
