@@ -1,6 +1,7 @@
 //! The names that load commands give an image as a library.
 
-ghost use Rattle.std.specs.Prelude.{◌≡◌, map, option_map};
+ghost use Rattle.std.specs.Prelude.{◌≡◌, map, option_map, OnOk};
+ghost use Rattle.std.specs.Io.KnownBytes.{Appends};
 ghost use Rattle.std.specs.Iterator.{YieldsFirstBy};
 ghost use Rattle.std.specs.List.{filter_map};
 ghost use Rattle.mach_load.specs.Variants.{command_of};
@@ -88,7 +89,9 @@ impl<'a, 'b> ItemList for OwnNames<'a, 'b> {
         self.take_next()
     }
 
-    fn write_item<F: FieldsForm, O: Write>(name: &OwnName<'a>, out: &mut O) -> io::Result<()> {
+    fn write_item<F: FieldsForm, O: Write>(name: &OwnName<'a>, out: &mut O) -> io::Result<()>
+        ensures { OnOk result (Appends (O.contents out.old) (O.contents out.new) (F.fields_text (own_name_fields (own_name_view name.now)))) }
+    {
         let Dylib {
             current_version,
             compatibility_version,
