@@ -17,6 +17,7 @@ use crate::lists::{
 use crate::notes::NumberedNotes;
 use crate::parts::{EntryPoint, NumberedPaths, NumberedSegments, OneHeader, UuidRows};
 use crate::providers::ProvidedSymbols;
+use crate::relocations::RelocationRows;
 use crate::sections::CountedSections;
 use crate::word::Word;
 use goblin_mach::slots::IndirectSymbolIterator;
@@ -113,5 +114,9 @@ pub fn use_list<U: ListUse, A: Allocator, O: Write>(
         Word::Entry => how.of_list(EntryPoint::of(image), 0, out),
         Word::Header => how.of_list(OneHeader(Some(image.header)), 0, out),
         Word::Security => how.of_list(HardeningFindings(Findings::of(image)), 0, out),
+        Word::Relocations => {
+            let (list, past) = RelocationRows::of(image);
+            how.of_list(list, past, out)
+        }
     }
 }

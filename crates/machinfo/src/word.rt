@@ -60,6 +60,8 @@ pub enum Word {
     Header,
     /// How it is hardened.
     Security,
+    /// The relocations of its sections.
+    Relocations,
 }
 
 impl Choice {
@@ -101,6 +103,7 @@ impl Word {
             "entrypoint" => Some(Word::Entry),
             "header" => Some(Word::Header),
             "security" => Some(Word::Security),
+            "relocations" => Some(Word::Relocations),
             _ => None,
         }
     }
@@ -130,6 +133,7 @@ impl Word {
             Word::Entry => "entrypoint",
             Word::Header => "header",
             Word::Security => "security",
+            Word::Relocations => "relocations",
         }
     }
 
@@ -142,6 +146,7 @@ impl Word {
             Word::Data => "data in code entries",
             Word::Providers => "symbols",
             Word::Sections => "sections",
+            Word::Relocations => "relocations",
             _ => "",
         }
     }
