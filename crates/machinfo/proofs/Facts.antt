@@ -42,6 +42,7 @@ use Rattle.machinfo.specs.PartFields.{entry_part_fields, header_part_fields, one
 use Rattle.machinfo.specs.OwnNames.{OwnNameView, own_name_by, own_name_fields}
 use Rattle.machinfo.specs.Parts.{EntryView, IsEntryRow, uuid_row_by}
 use Rattle.machinfo.specs.RowFields.{data_fields, fields_read, indirect_fields, library_row_fields, note_fields, option_fields}
+use Rattle.machinfo.specs.Relocations.{RelocationView, image_relocations, image_relocations_past, relocation_row_fields}
 use Rattle.machinfo.specs.RowFields.{provided_fields, rebase_row_fields, slot_fields, start_fields, tool_fields, weak_row_fields}
 use Rattle.machinfo.specs.SectionRows.{section_rows_in, sections_past}
 use Rattle.machinfo.specs.Verdicts.{explained_fields, finding_fields}
@@ -166,6 +167,12 @@ module _ {A : Type 0} (m : MachO A) (bytes : List ℕ) (o : ℕ) (p : IsImage by
         (ap (fields_read own_name_fields) is),
     refl,
   )
+
+  pub relocation_rows : (items : List (Result RelocationView Fault)) (past : ℕ) → items ≡ image_relocations (facts_view m)
+      → past ≡ image_relocations_past (facts_view m) → HasRows words.Relocations bytes o (fields_read relocation_row_fields items) past
+  relocation_rows items past is is_past = of_parts
+      (λ f. (fields_read relocation_row_fields items ≡ fields_read relocation_row_fields (image_relocations f)) × (past ≡ image_relocations_past f))
+      (ap (fields_read relocation_row_fields) is, is_past)
 
   pub import_fields_are : (parts : List SegmentStretches) (segments : List SegmentView) → HasSegments bytes o segments
       → parts ≡ parts_of (length bytes) segments → (items : List (Result Binding Fault))

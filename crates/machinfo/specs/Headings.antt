@@ -27,6 +27,7 @@ heading_of words.Entry = codes "ADDRESS SEGMENT SECTION SYMBOL"
 heading_of words.Header = codes "CPU KIND FLAGS  FIELDS"
 heading_of words.Security = codes "VERDICT                IS  MEANING"
 heading_of words.SecurityExplained = codes "VERDICT                IS  MEANING"
+heading_of words.Relocations = codes "SEGMENT      SECTION          ADDRESS  TYPE                    TARGET PCREL SIZE"
 
 -- the headings of exports, and of what dyld binds
 abbrev pub exports_heading : List ℕ

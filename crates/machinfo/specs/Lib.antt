@@ -15,6 +15,7 @@ pub mod CommandRowFields
 pub mod NumberedNotes
 pub mod ProvidedSymbols
 pub mod SectionRows
+pub mod Relocations
 pub mod Parts
 pub mod PartFields
 pub mod Lists

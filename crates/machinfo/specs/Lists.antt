@@ -20,6 +20,7 @@ use Rattle.machinfo.specs.Parts.{EntryView, IsEntryRow, uuid_row_by}
 use Rattle.machinfo.specs.ProvidedSymbols.{HasProvidedSymbols, symbols_past_in}
 use Rattle.machinfo.specs.OwnNames.{own_name_by, own_name_fields}
 use Rattle.machinfo.specs.RowFields.{data_fields, fields_read, indirect_fields, library_row_fields, note_fields, option_fields}
+use Rattle.machinfo.specs.Relocations.{image_relocations, image_relocations_past, relocation_row_fields}
 use Rattle.machinfo.specs.RowFields.{provided_fields, rebase_row_fields, slot_fields, start_fields, tool_fields, weak_row_fields}
 use Rattle.machinfo.specs.SectionRows.{section_rows_in, sections_past}
 use Rattle.machinfo.specs.Verdicts.{explained_fields, finding_fields}
@@ -70,6 +71,8 @@ HasRows words.Entry bytes o rows past =
 HasRows words.Header bytes o rows past = OfFacts bytes o (λ f. rows ≡ Ok (header_part_fields f.header) ∷ []) × (past ≡ 0)
 HasRows words.Security bytes o rows past = AreFieldsOf finding_fields (HasFindings bytes o) rows × (past ≡ 0)
 HasRows words.SecurityExplained bytes o rows past = AreFieldsOf explained_fields (HasFindings bytes o) rows × (past ≡ 0)
+HasRows words.Relocations bytes o rows past =
+    OfFacts bytes o (λ f. (rows ≡ fields_read relocation_row_fields (image_relocations f)) × (past ≡ image_relocations_past f))
 
 -- the name of a word's items, if more of them may be claimed past the end of the bytes
 abbrev pub past_name : Word → List ℕ
@@ -77,6 +80,7 @@ past_name words.Indirect = codes "indirect symbols"
 past_name words.Data = codes "data in code entries"
 past_name words.Providers = codes "symbols"
 past_name words.Sections = codes "sections"
+past_name words.Relocations = codes "relocations"
 past_name _ = []
 
 -- This is so of the rows of a word's list of the image at the start of the bytes, and of how many more it claims.

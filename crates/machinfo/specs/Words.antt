@@ -12,6 +12,7 @@ use Rattle.machinfo.specs.declared.word.Word.{Word}
 use Rattle.machinfo.specs.declared.word.Word.TheVariants.{Commands, CommandsAlone, Starts, Slots, Indirect, Data}
 use Rattle.machinfo.specs.declared.word.Word.TheVariants.{Options, Tools, Notes, Providers, Libraries, Rebases}
 use Rattle.machinfo.specs.declared.word.Word.TheVariants.{Id, Weak, Segments, Sections, Uuid, Rpaths, Entry, Header, Security, SecurityExplained}
+use Rattle.machinfo.specs.declared.word.Word.TheVariants.{Relocations}
 
 -- how a word is spelled
 abbrev pub spelling_of : Word → List ℕ
@@ -37,12 +38,13 @@ spelling_of Entry = codes "entrypoint"
 spelling_of Header = codes "header"
 spelling_of Security = codes "security"
 spelling_of SecurityExplained = codes "security"
+spelling_of Relocations = codes "relocations"
 
 -- the words that a call may have
 abbrev pub list_words : List Word
 list_words =
     Commands ∷ Starts ∷ Slots ∷ Indirect ∷ Data ∷ Options ∷ Tools ∷ Notes ∷ Providers ∷ Libraries ∷ Id ∷ Rebases ∷ Weak ∷ Segments ∷ Sections
-    ∷ Uuid ∷ Rpaths ∷ Entry ∷ Header ∷ Security ∷ []
+    ∷ Uuid ∷ Rpaths ∷ Entry ∷ Header ∷ Security ∷ Relocations ∷ []
 
 -- the first word with a spelling
 abbrev pub word_among : List Word → List ℕ → Option Word

@@ -18,6 +18,7 @@ use crate::notes::NumberedNotes;
 use crate::own_names::OwnNames;
 use crate::parts::{EntryPoint, NumberedPaths, NumberedSegments, OneHeader, UuidRows};
 use crate::providers::ProvidedSymbols;
+use crate::relocations::RelocationRows;
 use crate::sections::CountedSections;
 use crate::verdicts::{ExplainedFindings, HardeningFindings};
 use crate::word::Word;
@@ -117,5 +118,9 @@ pub fn use_list<U: ListUse, A: Allocator, O: Write>(
         Word::Header => how.of_list(OneHeader(Some(image.header)), 0, out),
         Word::Security => how.of_list(HardeningFindings(Findings::of(image)), 0, out),
         Word::SecurityExplained => how.of_list(ExplainedFindings(Findings::of(image)), 0, out),
+        Word::Relocations => {
+            let (list, past) = RelocationRows::of(image);
+            how.of_list(list, past, out)
+        }
     }
 }

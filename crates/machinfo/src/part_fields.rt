@@ -198,8 +198,8 @@ fn segment_of_found(found: &Option<NumberedSection>) -> Option<&str>
     }
 }
 
-// Returns the name of a section.
-fn name_of_found(found: &Option<NumberedSection>) -> Option<&str>
+/// Returns the name of a section.
+pub fn name_of_found(found: &Option<NumberedSection>) -> Option<&str>
     ensures { text_in result ≡ name_of_found found.now }
 {
     match found {

@@ -13,6 +13,7 @@ use Rattle.machinfo.specs.OwnNames.{own_names_left}
 use Rattle.machinfo.specs.PartFields.{paths_numbered_left, segments_numbered_left}
 use Rattle.machinfo.specs.Parts.{entry_view, uuid_rows_left}
 use Rattle.machinfo.specs.ProvidedSymbols.{provided_left}
+use Rattle.machinfo.specs.Relocations.{relocation_rows_left}
 use Rattle.machinfo.specs.RowFields.{data_fields, fields_read, indirect_fields, provided_fields}
 use Rattle.machinfo.specs.SectionRows.{sections_counted_left}
 use Rattle.machinfo.specs.declared.word.Word.TheVariants as words
@@ -155,3 +156,10 @@ returns-in-Id g c =
     rw c.in-Id.is (λ bytes p. of_rows _ bytes _ _ _ _ _
     (facts.own_name_rows c.args.image.now bytes 0 p (own_names_left c.of-in-Id.result) c.of-in-Id.ensures)
     c.of_list-in-Id.ensures)
+
+pub returns-in-Relocations : goal.returns-in-Relocations
+returns-in-Relocations g c =
+    let list = c.of-past-in-Relocations in
+    rw c.in-Relocations.is (λ bytes p. of_rows _ bytes _ _ _ _ _
+    (facts.relocation_rows c.args.image.now bytes 0 p (relocation_rows_left list.result.0) list.result.1 list.ensures.left list.ensures.past)
+    c.of_list-in-Relocations.ensures)
