@@ -15,6 +15,7 @@ use crate::generated::machinfo::parts::{
     EntryPoint, NumberedPaths, NumberedSegments, OneHeader, UuidRows,
 };
 use crate::generated::machinfo::providers::ProvidedSymbols;
+use crate::generated::machinfo::relocations::RelocationRows;
 use crate::generated::machinfo::sections::CountedSections;
 use crate::generated::machinfo::verdicts::{ExplainedFindings, HardeningFindings};
 use crate::generated::machinfo::word::Word;
@@ -103,5 +104,9 @@ pub fn use_list<U: ListUse, O: Write>(
         Word::Header => how.of_list(OneHeader(Some(image.header)), 0, out),
         Word::Security => how.of_list(HardeningFindings(Findings::of(image)), 0, out),
         Word::SecurityExplained => how.of_list(ExplainedFindings(Findings::of(image)), 0, out),
+        Word::Relocations => {
+            let (list, past) = RelocationRows::of(image);
+            how.of_list(list, past, out)
+        }
     }
 }

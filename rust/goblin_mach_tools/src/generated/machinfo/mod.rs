@@ -3,8 +3,8 @@
 //!
 //! With a word it prints one list instead, an item a line: load commands, function starts, stubs and pointers, indirect symbols,
 //! data in code, linker options, tools, notes, providers of symbols, libraries, the own name, rebases, weak binds, segments, sections,
-//! UUIDs, run paths, the entry point, the header, how it is hardened, exports or imports. Of a fat file it prints that of each entry, or of the
-//! entries for one cpu, under a line that says which. With `at` and an address it prints what each image has there.
+//! UUIDs, run paths, the entry point, the header, how it is hardened, relocations, exports or imports. Of a fat file it prints that of
+//! each entry, or of the entries for one cpu, under a line that says which. With `at` and an address it prints what each image has there.
 //!
 //! It prints at most as many rows of a file as `--limit` says, and a line after those of an image that has more. A row that can't
 //! be read is a line with the error. With `--json` it writes one object for each file instead, on a line.
@@ -43,6 +43,8 @@ mod part_fields;
 mod parts;
 mod providers;
 mod registers;
+mod relocation_fields;
+mod relocations;
 mod sections;
 mod verdicts;
 
@@ -79,7 +81,7 @@ line for each item.
        machinfo -h | --help | --version
 WORD: commands, starts, slots, indirect, data, options, tools, notes, providers,
       libraries, id, rebases, weak, segments, sections, uuid, rpaths,
-      entrypoint, header, security, exports, imports
+      entrypoint, header, security, relocations, exports, imports
 ",
     version: "machinfo 0.3.0\n",
     options: Options {
@@ -107,6 +109,7 @@ WORD: commands, starts, slots, indirect, data, options, tools, notes, providers,
   entrypoint                print where the image begins to run
   header                    print the header
   security                  print how the image is hardened
+  relocations               print the relocations of the sections
   exports                   print what the image exports
   imports                   print what dyld binds
 ",

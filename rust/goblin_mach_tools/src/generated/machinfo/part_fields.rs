@@ -212,8 +212,14 @@ fn segment_of_found(found: &Option<NumberedSection>) -> Option<&str> {
     }
 }
 
-// Returns the name of a section.
-fn name_of_found(found: &Option<NumberedSection>) -> Option<&str> {
+/// Returns the name of a section.
+///
+/// <details><summary>Proved</summary>
+///
+/// - `text_in result ≡ name_of_found found`
+///
+/// </details>
+pub fn name_of_found(found: &Option<NumberedSection>) -> Option<&str> {
     match found {
         Some(found) => name_in_field(&found.section.sectname),
         None => None,

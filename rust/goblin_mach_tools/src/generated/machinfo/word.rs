@@ -62,6 +62,8 @@ pub enum Word {
     Security,
     /// The same, and what turns each on.
     SecurityExplained,
+    /// The relocations of its sections.
+    Relocations,
 }
 
 impl Choice {
@@ -125,6 +127,7 @@ impl Word {
             "entrypoint" => Some(Word::Entry),
             "header" => Some(Word::Header),
             "security" => Some(Word::Security),
+            "relocations" => Some(Word::Relocations),
             _ => None,
         }
     }
@@ -160,6 +163,7 @@ impl Word {
             Word::Header => "header",
             Word::Security => "security",
             Word::SecurityExplained => "security",
+            Word::Relocations => "relocations",
         }
     }
 
@@ -198,6 +202,9 @@ impl Word {
             Word::Header => "CPU KIND FLAGS  FIELDS",
             Word::Security => "VERDICT                IS  MEANING",
             Word::SecurityExplained => "VERDICT                IS  MEANING",
+            Word::Relocations => {
+                "SEGMENT      SECTION          ADDRESS  TYPE                    TARGET PCREL SIZE"
+            }
         }
     }
 
@@ -222,6 +229,7 @@ impl Word {
             Word::Data => "data in code entries",
             Word::Providers => "symbols",
             Word::Sections => "sections",
+            Word::Relocations => "relocations",
             _ => "",
         }
     }
