@@ -2,6 +2,7 @@ mod InBounds
 mod Counted
 mod ExportRows
 mod Facts
+mod FirstSections
 mod Headings
 mod ListRows
 mod Flags

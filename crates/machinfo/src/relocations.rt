@@ -232,7 +232,8 @@ impl<'a, 'b, A: Allocator> RelocationRows<'a, 'b, A> {
 
     // Returns the next row of the current section.
     fn next_of_current(&mut self) -> Option<Result<RelocationRow<'a>>>
-        ensures row { MatchOption result (defined.current_rows_left (facts_view self.old.image.now) self.old.current ≡ [])
+        ensures row { MatchOption result ((defined.current_rows_left (facts_view self.old.image.now) self.old.current ≡ [])
+            × (defined.current_rows_left (facts_view self.old.image.now) self.new.current ≡ []))
             (λ row. defined.current_rows_left (facts_view self.old.image.now) self.old.current
             ≡ defined.relocation_row_read row ∷ defined.current_rows_left (facts_view self.old.image.now) self.new.current) }
         ensures image { self.new.image ≡ self.old.image }
@@ -256,7 +257,9 @@ impl<'a, 'b, A: Allocator> RelocationRows<'a, 'b, A> {
             if let Some(row) = self.next_of_current() {
                 return Some(row);
             }
-            let section = self.sections.next()?;
+            let Some(section) = self.sections.next() else {
+                return None;
+            };
             let relocations = claimed_by(self.image, &section).in_bounds();
             self.current = Some(SectionRelocations {
                 section,
