@@ -317,6 +317,14 @@ def relocations(size):
     return image([segment(b"__DATA", 0, 0x1000, 0, 0, count, 64, body)], bytes(8 * rows), kind=1)
 
 
+def far_section(size):
+    """Returns an image with many segments without sections, and then one with a section, whose relocations all refer to that section by its number."""
+    count, rows = size // 76, size // 160
+    front = [segment(b"__S%d" % i) for i in range(count)]
+    last = segment(b"__DATA", 0, 0x1000, 0, 0, 1, 64, section(0, rows, begin(72 * count + 152)))
+    return image([*front, last], words(0, 1) * rows, kind=1)
+
+
 def segments(size):
     """Returns an image with segments that all lie over each other, in the file and in memory."""
     count = size // 72
@@ -470,6 +478,8 @@ def files(size):
         "symbols_bad_%d" % size: symbol_names(size, 2, b"\xff"),
         **growing(size),
         **growing(10 * size),
+        # 8 * 10^9 segments, if all are gone over to look up the section of each relocation.
+        "relocations_far_%d" % (100 * size): far_section(100 * size),
         # 1.6 * 10^12 bytes of names, if all are read to look up one address.
         "symbols_at_%d" % (100 * size): symbols_at(100 * size),
     }

@@ -222,7 +222,9 @@ impl<'a, 'b> RelocationRows<'a, 'b> {
             if let Some(row) = self.next_of_current() {
                 return Some(row);
             }
-            let section = self.sections.next()?;
+            let Some(section) = self.sections.next() else {
+                return None;
+            };
             let relocations = claimed_by(self.image, &section).in_bounds();
             self.current = Some(SectionRelocations {
                 section,
