@@ -268,6 +268,9 @@ class Parser(Cursor):
             elif self.take() in ("..", "..=") and self.text() in ("]", ")", ",", "{", ";"):
                 pass
             else:
+                # The lexer makes two signs of a shift.
+                if self.text(-1) in ("<", ">"):
+                    self.takes(self.text(-1))
                 self.unary(bare)
             found = OPAQUE
         return found

@@ -232,8 +232,8 @@ impl<'a, 'b, A: Allocator> RelocationRows<'a, 'b, A> {
 
     // Returns the next row of the current section.
     fn next_of_current(&mut self) -> Option<Result<RelocationRow<'a>>>
-        ensures row { MatchOption result (defined.current_rows_left (facts_view self.old.image.now) self.old.current ≡ [])
-            (λ row. defined.current_rows_left (facts_view self.old.image.now) self.old.current
+        ensures row { MatchOption result ((defined.current_rows_left (facts_view self.old.image.now) self.old.current ≡ [])
+            × (defined.current_rows_left (facts_view self.old.image.now) self.new.current ≡ [])) (λ row. defined.current_rows_left (facts_view self.old.image.now) self.old.current
             ≡ defined.relocation_row_read row ∷ defined.current_rows_left (facts_view self.old.image.now) self.new.current) }
         ensures image { self.new.image ≡ self.old.image }
         ensures sections { self.new.sections ≡ self.old.sections }

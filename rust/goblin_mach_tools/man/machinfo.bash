@@ -5,7 +5,7 @@ _machinfo() {
     -*) mapfile -t COMPREPLY < <(compgen -W "--headings --explain --limit --json --names -0 --arch --cputype --at --color -h --help --version" -- "$word") ;;
     *)
         if [ "$COMP_CWORD" = 1 ]; then
-            mapfile -t COMPREPLY < <(compgen -W "at commands starts slots indirect data options tools notes providers libraries id rebases weak segments sections uuid rpaths entrypoint header security exports imports" -- "$word")
+            mapfile -t COMPREPLY < <(compgen -W "at commands starts slots indirect data options tools notes providers libraries id rebases weak segments sections uuid rpaths entrypoint header security relocations exports imports" -- "$word")
             return
         fi
         compopt -o filenames

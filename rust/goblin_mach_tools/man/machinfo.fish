@@ -19,6 +19,7 @@ complete -c machinfo -n __fish_use_subcommand -f -a rpaths -d 'print the run pat
 complete -c machinfo -n __fish_use_subcommand -f -a entrypoint -d 'print where the image begins to run'
 complete -c machinfo -n __fish_use_subcommand -f -a header -d 'print the header'
 complete -c machinfo -n __fish_use_subcommand -f -a security -d 'print how the image is hardened'
+complete -c machinfo -n __fish_use_subcommand -f -a relocations -d 'print the relocations of the sections'
 complete -c machinfo -n __fish_use_subcommand -f -a exports -d 'print what the image exports'
 complete -c machinfo -n __fish_use_subcommand -f -a imports -d 'print what dyld binds'
 complete -c machinfo -l headings -d 'print a heading before the lines of a list'
