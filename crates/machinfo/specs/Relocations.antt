@@ -49,8 +49,8 @@ target_symbol (Some table) k =
 abbrev pub section_among_first : List SegmentView → ℕ → Option NumberedSection
 section_among_first segments k = result_unwrap_or (section_by_number (take 16 segments) k) None
 
-abbrev pub target_section : List SegmentView → ℕ → RelocationTarget
-target_section segments k = if k == 0 then absolute_target else section_target k (section_among_first segments k)
+abbrev pub section_by_its_number : List SegmentView → ℕ → RelocationTarget
+section_by_its_number segments k = if k == 0 then absolute_target else section_target k (section_among_first segments k)
 
 -- a number of 24 bits as a signed one, in two's complement
 abbrev pub signed_of_24 : ℕ → ℤ
@@ -61,10 +61,10 @@ abbrev pub has_addend : (cputype kind : ℕ) → Bool
 has_addend cputype kind = (cputype == 0x100000c || cputype == 0x200000c) && kind == 10
 
 -- what a plain relocation refers to, by its number (r_symbolnum)
-abbrev pub target_of : Facts → (number : ℕ) → (is_extern : Bool) → (kind : ℕ) → Result RelocationTarget Fault
-target_of f k is_extern kind =
+abbrev pub target_by_number : Facts → (number : ℕ) → (is_extern : Bool) → (kind : ℕ) → Result RelocationTarget Fault
+target_by_number f k is_extern kind =
     if has_addend f.header.cputype kind then Ok (addend_target (signed_of_24 k))
-    else (if is_extern then target_symbol f.symbols k else Ok (target_section f.segments k))
+    else (if is_extern then target_symbol f.symbols k else Ok (section_by_its_number f.segments k))
 
 -- ---- rows
 
@@ -82,7 +82,7 @@ pub record RelocationView : Type 0 where
 -- the row of a relocation, or the reason why what it refers to can't be read
 abbrev pub row_of_form : Facts → NumberedSection → Relocation → Result RelocationView Fault
 row_of_form f s (Plain address k is_pcrel len is_extern kind) =
-    target_of f k is_extern kind
+    target_by_number f k is_extern kind
     >>= (λ target. Ok (record {
       section = s;
       cputype = f.header.cputype;

@@ -94,7 +94,7 @@ fn section_among_first(segments: &[Segment<'_>], number: u32) -> Option<Numbered
 
 // Returns what the number of a section refers to: 0 is that of none.
 fn target_section<'a>(segments: &[Segment<'_>], number: u32) -> Target<'a>
-    ensures { defined.target_view result ≡ defined.target_section (map segment_view segments.now) number }
+    ensures { defined.target_view result ≡ defined.section_by_its_number (map segment_view segments.now) number }
 {
     if number == 0 {
         Target::Absolute
@@ -128,7 +128,7 @@ fn target_of<'a, A: Allocator>(
     is_extern: bool,
     kind: u8,
 ) -> Result<Target<'a>>
-    ensures { Reads defined.target_view result (defined.target_of (facts_view image.now) number is_extern kind) }
+    ensures { Reads defined.target_view result (defined.target_by_number (facts_view image.now) number is_extern kind) }
 {
     if has_addend(image.header.cputype, kind) {
         return Ok(Target::Addend(signed_of_24(number)));
@@ -233,7 +233,8 @@ impl<'a, 'b, A: Allocator> RelocationRows<'a, 'b, A> {
     // Returns the next row of the current section.
     fn next_of_current(&mut self) -> Option<Result<RelocationRow<'a>>>
         ensures row { MatchOption result ((defined.current_rows_left (facts_view self.old.image.now) self.old.current ≡ [])
-            × (defined.current_rows_left (facts_view self.old.image.now) self.new.current ≡ [])) (λ row. defined.current_rows_left (facts_view self.old.image.now) self.old.current
+            × (defined.current_rows_left (facts_view self.old.image.now) self.new.current ≡ []))
+            (λ row. defined.current_rows_left (facts_view self.old.image.now) self.old.current
             ≡ defined.relocation_row_read row ∷ defined.current_rows_left (facts_view self.old.image.now) self.new.current) }
         ensures image { self.new.image ≡ self.old.image }
         ensures sections { self.new.sections ≡ self.old.sections }

@@ -130,11 +130,19 @@ fn after_dash(option: &str) -> &str {
 }
 
 impl SymbolOptions {
-    /// None of these options.
-    pub const NONE: SymbolOptions = SymbolOptions {
-        letters: Letters::NONE,
-        is_raw: false,
-    };
+    /// Returns none of these options.
+    ///
+    /// <details><summary>Proved</summary>
+    ///
+    /// - `result ≡ defined.no_options`
+    ///
+    /// </details>
+    pub fn none() -> SymbolOptions {
+        SymbolOptions {
+            letters: Letters::NONE,
+            is_raw: false,
+        }
+    }
 }
 
 impl OwnOptions for SymbolOptions {

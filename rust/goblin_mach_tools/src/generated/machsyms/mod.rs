@@ -39,7 +39,6 @@ mod nm;
 
 use crate::generated::mach_cli::{
     AddressLinesOf, AddressObjectsOf, Call, ImageFiles, Misuse, Options, Others, Program, Titled,
-    Word,
 };
 use crate::shim::io::{BufWriter, Write};
 use arguments::SymbolOptions;
@@ -96,13 +95,8 @@ pub fn main(rt: HostRuntime) -> ExitCode {
 // Runs the program with its words.
 fn start(rt: &HostRuntime) -> Result<u8, u8> {
     let words = PROGRAM.words(rt)?;
-    let call = call_of(rt, &words)?;
+    let call = PROGRAM.call(rt, SymbolOptions::none(), &words)?;
     show_files(rt, &call)
-}
-
-// Parses the program's words. Before the first option all symbols but debugging entries are selected, by name.
-fn call_of<'a>(rt: &HostRuntime, words: &'a [Word]) -> Result<Call<'a, SymbolOptions>, u8> {
-    PROGRAM.call(rt, SymbolOptions::NONE, words)
 }
 
 // Shows the selected symbols of files in order, and returns the worst status.
