@@ -263,14 +263,14 @@ class Parser(Cursor):
         if is_statement and found[0] in ("if", "match", "block", "loop") and self.at > begun and self.text(-1) == "}" and self.text() not in (".", "?"):
             return found
         while self.text() in BINARY or self.text() == "as":
-            if self.text() in ("<", ">") and self.text(1) == self.text():
-                # (a shift, whose operator is two tokens)
-                self.at += 1
             if self.takes("as"):
                 self.type(",", ")", "]", "}", ";", "{", "=>", *BINARY)
             elif self.take() in ("..", "..=") and self.text() in ("]", ")", ",", "{", ";"):
                 pass
             else:
+                # The lexer makes two signs of a shift.
+                if self.text(-1) in ("<", ">"):
+                    self.takes(self.text(-1))
                 self.unary(bare)
             found = OPAQUE
         return found

@@ -2,7 +2,6 @@ mod InBounds
 mod Counted
 mod ExportRows
 mod Facts
-mod FirstSections
 mod Headings
 mod ListRows
 mod Flags

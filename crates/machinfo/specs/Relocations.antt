@@ -40,17 +40,17 @@ pub data RelocationTarget : Type 0 where
   value_target : (value : ℕ) → RelocationTarget
 
 -- the symbol of a number, which must be one of the table
-abbrev pub target_of_symbol : Option SymbolTable → ℕ → Result RelocationTarget Fault
-target_of_symbol None k = Err malformed
-target_of_symbol (Some table) k =
+abbrev pub target_symbol : Option SymbolTable → ℕ → Result RelocationTarget Fault
+target_symbol None k = Err malformed
+target_symbol (Some table) k =
     if nat_lt k table.nsyms then symbol_name_at table k >>= (λ name. Ok (symbol_target k name)) else Err malformed
 
 -- The section of a number, if one of the first sixteen segments has it. Sections are counted from 1 over all segments.
 abbrev pub section_among_first : List SegmentView → ℕ → Option NumberedSection
 section_among_first segments k = result_unwrap_or (section_by_number (take 16 segments) k) None
 
-abbrev pub target_of_section : List SegmentView → ℕ → RelocationTarget
-target_of_section segments k = if k == 0 then absolute_target else section_target k (section_among_first segments k)
+abbrev pub section_by_its_number : List SegmentView → ℕ → RelocationTarget
+section_by_its_number segments k = if k == 0 then absolute_target else section_target k (section_among_first segments k)
 
 -- a number of 24 bits as a signed one, in two's complement
 abbrev pub signed_of_24 : ℕ → ℤ
@@ -61,10 +61,10 @@ abbrev pub has_addend : (cputype kind : ℕ) → Bool
 has_addend cputype kind = (cputype == 0x100000c || cputype == 0x200000c) && kind == 10
 
 -- what a plain relocation refers to, by its number (r_symbolnum)
-abbrev pub target_of_relocation : Facts → (number : ℕ) → (is_extern : Bool) → (kind : ℕ) → Result RelocationTarget Fault
-target_of_relocation f k is_extern kind =
+abbrev pub target_by_number : Facts → (number : ℕ) → (is_extern : Bool) → (kind : ℕ) → Result RelocationTarget Fault
+target_by_number f k is_extern kind =
     if has_addend f.header.cputype kind then Ok (addend_target (signed_of_24 k))
-    else (if is_extern then target_of_symbol f.symbols k else Ok (target_of_section f.segments k))
+    else (if is_extern then target_symbol f.symbols k else Ok (section_by_its_number f.segments k))
 
 -- ---- rows
 
@@ -82,7 +82,7 @@ pub record RelocationView : Type 0 where
 -- the row of a relocation, or the reason why what it refers to can't be read
 abbrev pub row_of_form : Facts → NumberedSection → Relocation → Result RelocationView Fault
 row_of_form f s (Plain address k is_pcrel len is_extern kind) =
-    target_of_relocation f k is_extern kind
+    target_by_number f k is_extern kind
     >>= (λ target. Ok (record {
       section = s;
       cputype = f.header.cputype;

@@ -1,6 +1,6 @@
 //! What is shown of a relocation, field by field: as a line, and as an object of JSON.
 
-ghost use Rattle.std.specs.Prelude.{◌≡◌, ◌^◌, ◌%◌, map, OnOk};
+ghost use Rattle.std.specs.Prelude.{◌≡◌, map, OnOk};
 ghost use Rattle.std.specs.Io.KnownBytes.{Appends};
 ghost use Rattle.mach_dyld.specs.Exports.{text_in};
 ghost use Rattle.mach_cli.specs.Fields.{field_view};
@@ -57,13 +57,6 @@ fn write_relocation<F: FieldsForm, O: Write>(row: &RelocationRow<'_>, out: &mut 
     }
 }
 
-// Returns how many bytes a length of two bits stands for, which is an exponent of 2.
-fn bytes_in(length: u8) -> u64
-    ensures { result ≡ 2 ^ (length % 4) }
-{
-    1 << (length % 4)
-}
-
 // Returns the fields of a relocation, but for what it refers to.
 fn relocation_members<'x>(row: &'x RelocationRow<'_>) -> [Field<'x>; 10]
     ensures { map field_view result ≡ defined.relocation_members (relocation_view row.now) }
@@ -89,7 +82,7 @@ fn relocation_members<'x>(row: &'x RelocationRow<'_>) -> [Field<'x>; 10]
         Field::of_object("type_number", Value::Number(u64::from(row.kind))),
         Field::new("is_pcrel", is_pcrel, 6),
         Field::of_object("length", Value::Number(u64::from(row.length))),
-        Field::new("size", Value::Number(bytes_in(row.length)), 7),
+        Field::new("size", Value::Number(1 << (row.length % 4)), 7),
     ]
 }
 

@@ -73,7 +73,7 @@ pub struct RelocationRows<'a, 'b, A: Allocator> {
 
 // Returns the symbol of a number, which must be one of the table.
 fn target_symbol<'a>(symbols: &Option<Symbols<'a>>, number: u32) -> Result<Target<'a>>
-    ensures { Reads defined.target_view result (defined.target_of_symbol (option_map table_of symbols.now) number) }
+    ensures { Reads defined.target_view result (defined.target_symbol (option_map table_of symbols.now) number) }
 {
     match symbols {
         Some(table) if (number as usize) < table.len() => match table.get(number as usize) {
@@ -94,7 +94,7 @@ fn section_among_first(segments: &[Segment<'_>], number: u32) -> Option<Numbered
 
 // Returns what the number of a section refers to: 0 is that of none.
 fn target_section<'a>(segments: &[Segment<'_>], number: u32) -> Target<'a>
-    ensures { defined.target_view result ≡ defined.target_of_section (map segment_view segments.now) number }
+    ensures { defined.target_view result ≡ defined.section_by_its_number (map segment_view segments.now) number }
 {
     if number == 0 {
         Target::Absolute
@@ -128,7 +128,7 @@ fn target_of<'a, A: Allocator>(
     is_extern: bool,
     kind: u8,
 ) -> Result<Target<'a>>
-    ensures { Reads defined.target_view result (defined.target_of_relocation (facts_view image.now) number is_extern kind) }
+    ensures { Reads defined.target_view result (defined.target_by_number (facts_view image.now) number is_extern kind) }
 {
     if has_addend(image.header.cputype, kind) {
         return Ok(Target::Addend(signed_of_24(number)));
@@ -257,9 +257,7 @@ impl<'a, 'b, A: Allocator> RelocationRows<'a, 'b, A> {
             if let Some(row) = self.next_of_current() {
                 return Some(row);
             }
-            let Some(section) = self.sections.next() else {
-                return None;
-            };
+            let section = self.sections.next()?;
             let relocations = claimed_by(self.image, &section).in_bounds();
             self.current = Some(SectionRelocations {
                 section,

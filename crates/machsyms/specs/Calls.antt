@@ -13,7 +13,6 @@ use Rattle.mach_cli.specs.declared.image_files.ImageFiles.{ImageFiles}
 use Rattle.mach_cli.specs.declared.titled.Titled.{Titled}
 use Rattle.machsyms.specs.ImageLines.{AreSelectedLines}
 use Rattle.machsyms.specs.JsonSymbols.{AreSelectedMembers}
-use Rattle.machsyms.specs.LetterWords.{names_files}
 use Rattle.machsyms.specs.declared.arguments.SymbolOptions.{SymbolOptions}
 use Rattle.machsyms.specs.declared.json.SymbolObjectsOf.{SymbolObjectsOf}
 use Rattle.machsyms.specs.declared.symbol_view.SymbolLinesOf.{SymbolLinesOf}
@@ -24,7 +23,7 @@ pub record AreSymbolFiles {A : Type 0} (call : Call A SymbolOptions) (s : ImageF
   pub cpu : s.cpu ≡ call.cpu
   pub limit : s.limit ≡ limit_of call.limit (2 ^ 64 - 1)
   pub form : s.is_json ≡ is_json call.format
-  pub titles : s.has_titles ≡ not (names_files call.own.letters)
+  pub titles : s.has_titles ≡ not call.own.letters.has_file
   pub lines : s.lines ≡ record { letters = call.own.letters; is_raw = call.own.is_raw }
   pub objects : s.objects ≡ record { letters = call.own.letters; is_raw = call.own.is_raw }
 
@@ -34,8 +33,8 @@ pub record AreAddressFiles {A : Type 0} (call : Call A SymbolOptions) (address :
   pub cpu : s.cpu ≡ call.cpu
   pub limit : s.limit ≡ limit_of call.limit (2 ^ 64 - 1)
   pub form : s.is_json ≡ is_json call.format
-  pub titles : s.has_titles ≡ not (names_files call.own.letters)
-  pub lines : s.lines ≡ record { address = address; has_file = names_files call.own.letters; is_raw = call.own.is_raw }
+  pub titles : s.has_titles ≡ not call.own.letters.has_file
+  pub lines : s.lines ≡ record { address = address; has_file = call.own.letters.has_file; is_raw = call.own.is_raw }
   pub objects : s.objects ≡ record { address = address }
 
 -- A call shows the symbols of all files that it names, as lines.

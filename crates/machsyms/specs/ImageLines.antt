@@ -37,7 +37,7 @@ pub record AreImageSymbolLines (a : Request) (limit left : ℕ) (bytes : List �
       (codes "symbols") (past_the_end facts.symbols) text whole rest
 
 -- The same of the symbols that letters select of a file of a name.
-pub record AreSelectedLines (letters : Option Letters) (is_raw : Bool) (file : List ℕ) (limit left : ℕ) (bytes : List ℕ) (text : List ℕ) (whole : Bool)
+pub record AreSelectedLines (letters : Letters) (is_raw : Bool) (file : List ℕ) (limit left : ℕ) (bytes : List ℕ) (text : List ℕ) (whole : Bool)
     (rest : ℕ) : Type 0 where
   pub name : Bor (List ℕ)
   pub is_name : name.now ≡ file

@@ -62,7 +62,7 @@ pub record AreImageSymbolMembers (a : Request) (left : ℕ) (bytes : List ℕ) (
   pub members : AreMembersInBounds left (symbol_members a (symbols_over (gone_over a.sorting keys) facts.symbols)) (past_the_end facts.symbols) text whole rest
 
 -- The same of the symbols that letters select of a file of a name.
-pub record AreSelectedMembers (letters : Option Letters) (is_raw : Bool) (file : List ℕ) (limit left : ℕ) (bytes : List ℕ) (text : List ℕ) (whole : Bool)
+pub record AreSelectedMembers (letters : Letters) (is_raw : Bool) (file : List ℕ) (limit left : ℕ) (bytes : List ℕ) (text : List ℕ) (whole : Bool)
     (rest : ℕ) : Type 0 where
   pub name : Bor (List ℕ)
   pub is_name : name.now ≡ file

@@ -1,5 +1,5 @@
 -- What the options of a call select, as those of `nm` do.
-use Rattle.std.specs.Prelude.{◌==◌, ℕ, List, [], ◌∷◌, codes, length, bytes_eq, unwrap_or, Bool, true, false, Option, Some, None, if◌then◌else◌}
+use Rattle.std.specs.Prelude.{◌==◌, ℕ, List, [], ◌∷◌, codes, length, bytes_eq, Bool, true, false, Option, Some, None, if◌then◌else◌}
 use Rattle.std.specs.Borrow.{Bor}
 use Rattle.machsyms.specs.Letters.{letter}
 use Rattle.machsyms.specs.declared.selection.Request.{Request}
@@ -9,28 +9,28 @@ use Rattle.machsyms.specs.declared.selection.SortedBy.TheVariants as sorted
 use Rattle.machsyms.specs.declared.arguments.Letters.{Letters}
 use Rattle.machsyms.specs.declared.arguments.SymbolOptions.{SymbolOptions}
 
--- all symbols in table order
-abbrev pub all_symbols : Request
-all_symbols = record {
-  has_stabs = true;
-  is_external = false;
-  is_undefined = false;
-  is_defined = false;
-  sorting = None;
-  form = forms.Letters;
-  file = None;
-  is_raw = false;
-}
-
--- before the first letter: no debugging entries, and symbols by name
+-- without letters: all but debugging entries, by name
 abbrev pub no_letters : Letters
 no_letters = record {
-  request = record all_symbols { has_stabs = false };
+  request = record {
+    has_stabs = false;
+    is_external = false;
+    is_undefined = false;
+    is_defined = false;
+    sorting = None;
+    form = forms.Letters;
+    file = None;
+    is_raw = false;
+  };
   sorting = record { by = sorted.Name; is_reversed = false };
   is_plain = false;
   is_hexadecimal = false;
   has_file = false;
 }
+
+-- before the first option
+abbrev pub no_options : SymbolOptions
+no_options = record { letters = no_letters; is_raw = false }
 
 -- the letters with one more, and whether it is a known one
 abbrev pub letter_taken : Letters → ℕ → Letters × Bool
@@ -82,7 +82,7 @@ letters_in (long ∷ names) option = if bytes_eq option long.0 then long.1 else 
 -- the options with some letters, if all are known, and whether they are
 abbrev pub letters_kept : SymbolOptions → Option Letters → SymbolOptions × Bool
 letters_kept o None = (o, false)
-letters_kept o (Some l) = (record o { letters = Some l }, true)
+letters_kept o (Some l) = (record o { letters = l }, true)
 
 -- The options after an argument, and whether it is one of them: `--raw`, a long name, or known letters after a dash.
 abbrev pub option_taken : SymbolOptions → List ℕ → SymbolOptions × Bool
@@ -90,7 +90,7 @@ option_taken o argument =
     let said = letters_in long_names argument in
     if bytes_eq argument (codes "--raw") then (record o { is_raw = true }, true)
     else (if length said == 0 then (o, false)
-    else letters_kept o (letters_taken (unwrap_or o.letters no_letters) said))
+    else letters_kept o (letters_taken o.letters said))
 
 -- the form of lines: of undefined symbols the names alone, unless a letter selects another form
 abbrev pub form_of_letters : Form → (is_undefined is_hexadecimal : Bool) → Form
@@ -101,20 +101,10 @@ form_of_letters forms.Names is_undefined is_hexadecimal = forms.Names
 form_of_letters forms.Hexadecimal is_undefined is_hexadecimal = forms.Hexadecimal
 
 -- what letters select of a file; no order if a letter says so
-abbrev pub selected_by : Letters → (is_raw : Bool) → Bor (List ℕ) → Request
-selected_by l is_raw file = record l.request {
+abbrev pub selected_of : Letters → (is_raw : Bool) → Bor (List ℕ) → Request
+selected_of l is_raw file = record l.request {
   sorting = if l.is_plain then None else Some l.sorting;
   form = form_of_letters l.request.form l.request.is_undefined l.is_hexadecimal;
   file = if l.has_file then Some file else None;
   is_raw = is_raw;
 }
-
--- all symbols in table order, if there are no letters
-abbrev pub selected_of : Option Letters → (is_raw : Bool) → Bor (List ℕ) → Request
-selected_of None is_raw file = record all_symbols { is_raw = is_raw }
-selected_of (Some l) is_raw file = selected_by l is_raw file
-
--- whether each line has the name of its file before it
-abbrev pub names_files : Option Letters → Bool
-names_files None = false
-names_files (Some l) = l.has_file

@@ -9,8 +9,8 @@ use mach_cli::OwnOptions;
 /// What a call's own options say.
 #[derive(Clone, Copy, Drop)]
 pub struct SymbolOptions {
-    /// What letters say, if there is one.
-    pub letters: Option<Letters>,
+    /// What letters say.
+    pub letters: Letters,
     /// Names are printed as they are, not escaped.
     pub is_raw: bool,
 }
@@ -22,15 +22,22 @@ pub struct Letters {
     sorting: Sorting,
     is_plain: bool,
     is_hexadecimal: bool,
-    has_file: bool,
+    /// Each line has the name of its file before it.
+    pub has_file: bool,
 }
 
 impl Letters {
-    // The letters of a call that has such options, before the first of them.
+    // No letters: they select all but debugging entries, by name.
     const NONE: Letters = Letters {
         request: Request {
             has_stabs: false,
-            ..Request::ALL
+            is_external: false,
+            is_undefined: false,
+            is_defined: false,
+            sorting: None,
+            form: Form::Letters,
+            file: None,
+            is_raw: false,
         },
         sorting: Sorting {
             by: SortedBy::Name,
@@ -75,9 +82,9 @@ impl Letters {
         Some(taken)
     }
 
-    // Returns what the letters select of a file.
-    fn request<'a>(&self, is_raw: bool, file: &'a str) -> Request<'a>
-        ensures { result ≡ defined.selected_by self.now is_raw file.entry }
+    /// Returns what these letters select of a file.
+    pub fn selected_of<'a>(self, is_raw: bool, file: &'a str) -> Request<'a>
+        ensures { result ≡ defined.selected_of self is_raw file.entry }
     {
         let request = self.request;
         Request {
@@ -128,11 +135,15 @@ fn after_dash(option: &str) -> &str
 }
 
 impl SymbolOptions {
-    /// None of these options.
-    pub const NONE: SymbolOptions = SymbolOptions {
-        letters: None,
-        is_raw: false,
-    };
+    /// Returns none of these options.
+    pub fn none() -> SymbolOptions
+        ensures { result ≡ defined.no_options }
+    {
+        SymbolOptions {
+            letters: Letters::NONE,
+            is_raw: false,
+        }
+    }
 }
 
 impl OwnOptions for SymbolOptions {
@@ -149,34 +160,10 @@ impl OwnOptions for SymbolOptions {
         if letters.is_empty() {
             return false;
         }
-        let before = self.letters.unwrap_or(Letters::NONE);
-        match before.with(letters.as_bytes()) {
-            Some(all) => self.letters = Some(all),
+        match self.letters.with(letters.as_bytes()) {
+            Some(all) => self.letters = all,
             None => return false,
         }
         true
-    }
-}
-
-/// Returns what is selected of a file: all symbols in table order, unless a letter says otherwise.
-pub fn selected_of<'a>(letters: Option<Letters>, is_raw: bool, file: &'a str) -> Request<'a>
-    ensures { result ≡ defined.selected_of letters is_raw file.entry }
-{
-    match letters {
-        Some(letters) => letters.request(is_raw, file),
-        None => Request {
-            is_raw,
-            ..Request::ALL
-        },
-    }
-}
-
-/// Whether each line has the name of its file before it.
-pub fn names_files(letters: Option<Letters>) -> bool
-    ensures { result ≡ defined.names_files letters }
-{
-    match letters {
-        Some(letters) => letters.has_file,
-        None => false,
     }
 }

@@ -2,7 +2,7 @@
 
 ghost use Rattle.machsyms.specs.JsonSymbols.{AreSelectedMembers};
 
-use crate::arguments::{Letters, selected_of};
+use crate::arguments::Letters;
 use crate::members::write_members;
 use crate::symbol_view::keys_of_image;
 use goblin_mach::{MachO, laws};
@@ -14,7 +14,7 @@ use std::io::Write;
 /// don't affect it.
 #[derive(Clone, Copy)]
 pub struct SymbolObjectsOf {
-    pub letters: Option<Letters>,
+    pub letters: Letters,
     pub is_raw: bool,
 }
 
@@ -31,7 +31,7 @@ impl ImageView for SymbolObjectsOf {
         out: &mut O,
     ) -> Result<Outcome, ShowFailure> {
         laws::facts_of_image(image);
-        let request = selected_of(self.letters, self.is_raw, file);
+        let request = self.letters.selected_of(self.is_raw, file);
         let keys = keys_of_image(alloc.clone()?, request.sorting, &image.symbols)?;
         Ok(write_members(&request, &keys, &image.symbols, left, out)?)
     }

@@ -1,11 +1,12 @@
-//! Prints the symbols of a Mach-O file, a line each, as `nm -a -p` does: the value, a letter for what the symbol is, and its
-//! name. Of a fat file it prints those of each entry, or of the entries for one cpu, under the heading that `llvm-nm` has. Options of
-//! `nm` select some of the symbols, another order, or another form of lines. With `--json` it writes one object for each file
-//! instead, on a line. With `--at` it prints what each image has at an address: the section, the nearest symbol and the function.
+//! Prints the symbols of a Mach-O file, a line each, as `nm` does: the value, a letter for what the symbol is, and its name. They
+//! are sorted by name, without debugging entries; with `-ap` it prints all in table order. Of a fat file it prints those of each
+//! entry, or of the entries for one cpu, under the heading that `llvm-nm` has. Options of `nm` select other symbols, another order,
+//! or another form of lines. With `--json` it writes one object for each file instead, on a line. With `--at` it prints what each
+//! image has at an address: the section, the nearest symbol and the function.
 //!
 //! Its lines differ from those of `llvm-nm`:
-//! - Each symbol has a line, and one whose record or name can't be read has a line with the error. `llvm-nm` prints `bad string
-//!   index` for a name outside the bytes, and a name that is not UTF-8 as it is.
+//! - A symbol whose record or name can't be read has a line with the error, after all others if they are sorted. `llvm-nm` prints
+//!   `bad string index` for a name outside the bytes, and a name that is not UTF-8 as it is.
 //! - A debugging entry is printed as one whatever its other bits are. In `llvm-nm` one with the bits of `N_ABS`, as `N_FNAME`, is
 //!   an absolute symbol, and one with the bit `N_EXT` may be undefined.
 //! - An indirect symbol (`N_INDR`) has its value, the offset of the other symbol's name. `llvm-nm` prints blanks, and the other
@@ -43,7 +44,7 @@ mod text;
 // The words of `nm -m` for a symbol.
 mod nm;
 
-use arguments::{SymbolOptions, names_files};
+use arguments::SymbolOptions;
 use json::SymbolObjectsOf;
 use mach_cli::{
     AddressLinesOf, AddressObjectsOf, Call, ImageFiles, Misuse, Options, Others, Program, Titled,
@@ -55,8 +56,8 @@ use symbol_view::SymbolLinesOf;
 
 const PROGRAM: Program = Program {
     name: "machsyms",
-    about: "machsyms prints the symbols of Mach-O files, a line each, as 'nm -a -p' does.
-With letters its output is that of nm with the same letters.
+    about: "machsyms prints the symbols of Mach-O files, a line each, as nm does with the
+same options. By default it sorts by name and shows no debugging symbols.
 ",
     usage: "usage: machsyms [-AUagjmnoprux] [--raw] [--json] [--limit N]
                 [--arch NAME | --cputype 0xN] [--names FILE [-0]]
@@ -89,7 +90,7 @@ With letters its output is that of nm with the same letters.
 ",
     examples: "  machsyms -gU libz.dylib         what a library defines for others
   machsyms --at 0x100000460 prog  what a program has at an address
-  machsyms --json prog            all symbols as JSON
+  machsyms --json -ap prog        all symbols as JSON, in the table's order
 ",
 };
 
@@ -102,7 +103,7 @@ fn main(rt: HostRuntime) -> ExitCode {
 // Runs the program with its words.
 fn start(rt: &HostRuntime) -> Result<u8, u8> {
     let words = PROGRAM.words(rt)?;
-    let call = PROGRAM.call(rt, SymbolOptions::NONE, &words)?;
+    let call = PROGRAM.call(rt, SymbolOptions::none(), &words)?;
     show_files(rt, &call)
 }
 
@@ -143,7 +144,7 @@ fn shown_by(call: &Call<'_, Global, SymbolOptions>) -> ImageFiles<SymbolLinesOf,
     let lines = SymbolLinesOf { letters, is_raw };
     let objects = SymbolObjectsOf { letters, is_raw };
     ImageFiles {
-        has_titles: !names_files(letters),
+        has_titles: !letters.has_file,
         ..ImageFiles::of(PROGRAM, call, usize::MAX, lines, objects)
     }
 }
@@ -156,7 +157,7 @@ fn shown_at(
     ensures { AreAddressFiles call.now address result }
 {
     let SymbolOptions { letters, is_raw } = call.own;
-    let has_file = names_files(letters);
+    let has_file = letters.has_file;
     let lines = AddressLinesOf {
         address,
         has_file,

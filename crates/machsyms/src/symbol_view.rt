@@ -4,7 +4,7 @@ ghost use Rattle.std.specs.Prelude.{option_map, IfOk};
 ghost use Rattle.mach_parts.specs.SymbolViews.{table_of};
 ghost use Rattle.machsyms.specs.ImageLines.{AreImageKeys, AreSelectedLines};
 
-use crate::arguments::{Letters, selected_of};
+use crate::arguments::Letters;
 use crate::letters::{named_sections, section_letters};
 use crate::order::{SortKey, keys_in_order};
 use crate::print::{print_symbols, unreadable_word};
@@ -19,7 +19,7 @@ use std::io::Write;
 /// The lines of the symbols that letters select.
 #[derive(Clone, Copy)]
 pub struct SymbolLinesOf {
-    pub letters: Option<Letters>,
+    pub letters: Letters,
     pub is_raw: bool,
 }
 
@@ -36,7 +36,7 @@ impl ImageView for SymbolLinesOf {
         out: &mut O,
     ) -> Result<Outcome, ShowFailure> {
         laws::facts_of_image(image);
-        let request = selected_of(self.letters, self.is_raw, file);
+        let request = self.letters.selected_of(self.is_raw, file);
         let sections = named_sections(alloc.clone()?, image)?;
         let letters = section_letters(alloc.clone()?, &sections)?;
         let keys = keys_of_image(alloc.clone()?, request.sorting, &image.symbols)?;

@@ -8,8 +8,8 @@ use crate::generated::machsyms::selection::{Form, Request, SortedBy, Sorting};
 /// What a call's own options say.
 #[derive(Clone, Copy)]
 pub struct SymbolOptions {
-    /// What letters say, if there is one.
-    pub letters: Option<Letters>,
+    /// What letters say.
+    pub letters: Letters,
     /// Names are printed as they are, not escaped.
     pub is_raw: bool,
 }
@@ -21,15 +21,22 @@ pub struct Letters {
     sorting: Sorting,
     is_plain: bool,
     is_hexadecimal: bool,
-    has_file: bool,
+    /// Each line has the name of its file before it.
+    pub has_file: bool,
 }
 
 impl Letters {
-    // The letters of a call that has such options, before the first of them.
+    // No letters: they select all but debugging entries, by name.
     const NONE: Letters = Letters {
         request: Request {
             has_stabs: false,
-            ..Request::ALL
+            is_external: false,
+            is_undefined: false,
+            is_defined: false,
+            sorting: None,
+            form: Form::Letters,
+            file: None,
+            is_raw: false,
         },
         sorting: Sorting {
             by: SortedBy::Name,
@@ -70,8 +77,14 @@ impl Letters {
         Some(taken)
     }
 
-    // Returns what the letters select of a file.
-    fn request<'a>(&self, is_raw: bool, file: &'a str) -> Request<'a> {
+    /// Returns what these letters select of a file.
+    ///
+    /// <details><summary>Proved</summary>
+    ///
+    /// - `result ≡ defined.selected_of self is_raw file.entry`
+    ///
+    /// </details>
+    pub fn selected_of<'a>(self, is_raw: bool, file: &'a str) -> Request<'a> {
         let request = self.request;
         Request {
             sorting: if self.is_plain {
@@ -117,11 +130,19 @@ fn after_dash(option: &str) -> &str {
 }
 
 impl SymbolOptions {
-    /// None of these options.
-    pub const NONE: SymbolOptions = SymbolOptions {
-        letters: None,
-        is_raw: false,
-    };
+    /// Returns none of these options.
+    ///
+    /// <details><summary>Proved</summary>
+    ///
+    /// - `result ≡ defined.no_options`
+    ///
+    /// </details>
+    pub fn none() -> SymbolOptions {
+        SymbolOptions {
+            letters: Letters::NONE,
+            is_raw: false,
+        }
+    }
 }
 
 impl OwnOptions for SymbolOptions {
@@ -134,42 +155,10 @@ impl OwnOptions for SymbolOptions {
         if letters.is_empty() {
             return false;
         }
-        let before = self.letters.unwrap_or(Letters::NONE);
-        match before.with(letters.as_bytes()) {
-            Some(all) => self.letters = Some(all),
+        match self.letters.with(letters.as_bytes()) {
+            Some(all) => self.letters = all,
             None => return false,
         }
         true
-    }
-}
-
-/// Returns what is selected of a file: all symbols in table order, unless a letter says otherwise.
-///
-/// <details><summary>Proved</summary>
-///
-/// - `result ≡ defined.selected_of letters is_raw file.entry`
-///
-/// </details>
-pub fn selected_of<'a>(letters: Option<Letters>, is_raw: bool, file: &'a str) -> Request<'a> {
-    match letters {
-        Some(letters) => letters.request(is_raw, file),
-        None => Request {
-            is_raw,
-            ..Request::ALL
-        },
-    }
-}
-
-/// Whether each line has the name of its file before it.
-///
-/// <details><summary>Proved</summary>
-///
-/// - `result ≡ defined.names_files letters`
-///
-/// </details>
-pub fn names_files(letters: Option<Letters>) -> bool {
-    match letters {
-        Some(letters) => letters.has_file,
-        None => false,
     }
 }

@@ -3,7 +3,7 @@
 #![forbid(unsafe_code)]
 
 use crate::generated::mach_cli::{ImageView, Outcome, ShowFailure};
-use crate::generated::machsyms::arguments::{Letters, selected_of};
+use crate::generated::machsyms::arguments::Letters;
 use crate::generated::machsyms::members::write_members;
 use crate::generated::machsyms::symbol_view::keys_of_image;
 use crate::shim::io::Write;
@@ -13,7 +13,7 @@ use goblin_mach::MachO;
 /// don't affect it.
 #[derive(Clone, Copy)]
 pub struct SymbolObjectsOf {
-    pub letters: Option<Letters>,
+    pub letters: Letters,
     pub is_raw: bool,
 }
 
@@ -26,7 +26,7 @@ impl ImageView for SymbolObjectsOf {
         left: usize,
         out: &mut O,
     ) -> Result<Outcome, ShowFailure> {
-        let request = selected_of(self.letters, self.is_raw, file);
+        let request = self.letters.selected_of(self.is_raw, file);
         let keys = keys_of_image(request.sorting, &image.symbols)?;
         Ok(write_members(&request, &keys, &image.symbols, left, out)?)
     }

@@ -55,18 +55,6 @@ pub struct Request<'a> {
 }
 
 impl Request<'_> {
-    /// All symbols in table order, debugging entries included.
-    pub const ALL: Request<'static> = Request {
-        has_stabs: true,
-        is_external: false,
-        is_undefined: false,
-        is_defined: false,
-        sorting: None,
-        form: Form::Letters,
-        file: None,
-        is_raw: false,
-    };
-
     /// Whether a symbol is selected. One that can't be read always is.
     ///
     /// <details><summary>Proved</summary>

@@ -5,7 +5,7 @@
 use alloc::vec::Vec;
 
 use crate::generated::mach_cli::{ImageView, Outcome, ShowFailure};
-use crate::generated::machsyms::arguments::{Letters, selected_of};
+use crate::generated::machsyms::arguments::Letters;
 use crate::generated::machsyms::letters::{named_sections, section_letters};
 use crate::generated::machsyms::order::{SortKey, keys_in_order};
 use crate::generated::machsyms::print::{print_symbols, unreadable_word};
@@ -19,7 +19,7 @@ use goblin_mach::symbols::Symbols;
 /// The lines of the symbols that letters select.
 #[derive(Clone, Copy)]
 pub struct SymbolLinesOf {
-    pub letters: Option<Letters>,
+    pub letters: Letters,
     pub is_raw: bool,
 }
 
@@ -32,7 +32,7 @@ impl ImageView for SymbolLinesOf {
         left: usize,
         out: &mut O,
     ) -> Result<Outcome, ShowFailure> {
-        let request = selected_of(self.letters, self.is_raw, file);
+        let request = self.letters.selected_of(self.is_raw, file);
         let sections = named_sections(image)?;
         let letters = section_letters(&sections)?;
         let keys = keys_of_image(request.sorting, &image.symbols)?;

@@ -9,7 +9,7 @@ returns-in_ok-print_list-in-Some-Word-clause-shown g c =
     let is_word = rw c.in-Some-Word.is at c.in-Some-Word.field-0-is in
     rw (c.in-Some-Word.is, is_word) (λ bytes opened. let listed = c.in_ok-print_list-in-Some-Word.ensures bytes opened in
     under_heading c.args.self.now.has_headings (heading_of c.in-Some-Word.word) _
-    (AreImageListLines c.in-Some-Word.word c.args.limit c.args.left bytes) listed.0 _ _ _ _ _ c.heading-in-Some-Word.ensures
+    (AreImageListLines c.in-Some-Word.word c.args.limit c.args.left bytes) listed.0 _ _ _ _ _ c.heading.ensures
     c.in_ok-print_heading-in-Some-Word.ensures listed.1 listed.2)
 
 -- exports are selected
