@@ -42,11 +42,6 @@ fn write_relocation<F: FieldsForm, O: Write>(
     }
 }
 
-// Returns how many bytes a length of two bits stands for, which is an exponent of 2.
-fn bytes_in(length: u8) -> u64 {
-    1 << (length % 4)
-}
-
 // Returns the fields of a relocation, but for what it refers to.
 fn relocation_members<'x>(row: &'x RelocationRow<'_>) -> [Field<'x>; 10] {
     let section = &row.section.section;
@@ -70,7 +65,7 @@ fn relocation_members<'x>(row: &'x RelocationRow<'_>) -> [Field<'x>; 10] {
         Field::of_object("type_number", Value::Number(u64::from(row.kind))),
         Field::new("is_pcrel", is_pcrel, 6),
         Field::of_object("length", Value::Number(u64::from(row.length))),
-        Field::new("size", Value::Number(bytes_in(row.length)), 7),
+        Field::new("size", Value::Number(1 << (row.length % 4)), 7),
     ]
 }
 

@@ -222,9 +222,7 @@ impl<'a, 'b> RelocationRows<'a, 'b> {
             if let Some(row) = self.next_of_current() {
                 return Some(row);
             }
-            let Some(section) = self.sections.next() else {
-                return None;
-            };
+            let section = self.sections.next()?;
             let relocations = claimed_by(self.image, &section).in_bounds();
             self.current = Some(SectionRelocations {
                 section,
