@@ -417,8 +417,8 @@ static void check_kinds(void) {
             GM_KIND_JAVA_CLASS),
         STARTS("\xca\xfe\xba\xbe", GM_KIND_FAT), STARTS("\xca\xfe\xba\xbf", GM_KIND_FAT_64), STARTS("!<arch>\n", GM_KIND_ARCHIVE), STARTS("!<thin>\n",
             GM_KIND_ARCHIVE),
-        STARTS("!<arch>", GM_KIND_UNKNOWN), STARTS("\x7f" "ELF", GM_KIND_ELF), STARTS("MZ", GM_KIND_PE), STARTS("BC\xc0\xde", GM_KIND_BITCODE),
-        STARTS("\xde\xc0\x17\x0b", GM_KIND_BITCODE), STARTS("text", GM_KIND_UNKNOWN)};
+        STARTS("!<arch>", GM_KIND_TEXT), STARTS("\x7f" "ELF", GM_KIND_ELF), STARTS("MZ", GM_KIND_PE), STARTS("BC\xc0\xde", GM_KIND_BITCODE),
+        STARTS("\xde\xc0\x17\x0b", GM_KIND_BITCODE), STARTS("text", GM_KIND_TEXT), STARTS("te\x01", GM_KIND_UNKNOWN)};
     for (uint64_t i = 0; i < sizeof rows / sizeof *rows; i++)
         if (gm_kind(rows[i].bytes, rows[i].len) != rows[i].kind) DIE("kind %" PRIu64 " is %u", i, gm_kind(rows[i].bytes, rows[i].len));
 }

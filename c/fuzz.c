@@ -12,7 +12,8 @@ static void check_input(const uint8_t *bytes, uint64_t len) {
     tells(told_of_table, &g);
     for (uint32_t mode = GM_STRICT; mode <= GM_LOSSY; mode++) {
         if (opens(&g, mode)) continue;
-        static const char *const names[] = {"weak_binds", "rebases", "function_starts", "data_in_code", "indirect_symbols", "slots", "linker_options",
+        static const char *const names[] = {"weak_binds", "rebases", "function_starts", "data_in_code", "indirect_symbols", "slots", "initializers",
+                                            "linker_options",
                                             "build_tools", "notes", "layout", "ids", "signature", "signature_faults", "security"};
         for (int i = 0; i < 8; i++) same_in_batches(&lists[i], &g);
         for (uint64_t i = 0; i < sizeof names / sizeof *names; i++) same_in_batches(named(names[i]), &g);

@@ -138,6 +138,15 @@ LIST(slots, gm_slot, slots(g, first, rows, cap),
      fprintf(to, "%" PRIx64 " %" PRIu64 " %" PRIu64 " %u %u %u %u %u %u ", r->address, r->len, r->segment, r->section_index, r->kind, r->index, r->owner,
          r->symbol, r->code);
      text(to, g, r->name, r->name_len))
+static uint64_t initializers(const given *g, uint64_t first, gm_initializer *rows, uint64_t cap) {
+    uint64_t count = UINT64_MAX;
+    gm_error e;
+    uint32_t code = gm_initializers(OF, first, rows, cap, &count, NULL, &e);
+    if (code && (count != UINT64_MAX || code != e.code)) DIE("a refusal changed the count, or has another code");
+    return code ? 0 : count;
+}
+LIST(initializers, gm_initializer, initializers(g, first, rows, cap),
+     fprintf(to, "%" PRIx64 " %" PRIx64 " %" PRIu64 " %u %u", r->slot, r->target, r->segment, r->section_index, r->code))
 LIST(linker_options, gm_linker_option, gm_linker_options(OF, first, rows, cap),
      fprintf(to, "%" PRIx64 " %u ", r->command, r->code); text(to, g, r->text, r->text_len))
 LIST(build_tools, gm_build_tool, gm_build_tools(OF, first, rows, cap), fprintf(to, "%" PRIx64 " %u %x %u", r->command, r->tool, r->version, r->code))
@@ -246,7 +255,7 @@ static const list lists[] = {ONE(commands, gm_command), ONE(segments, gm_segment
                              ONE(entries, gm_fat_entry), ONE(sections, gm_section), ONE(relocations, gm_relocation), ONE(layout, gm_layout_fault),
                               ONE(table, gm_layout_fault), ONE(ids, gm_id), ONE(weak_binds, gm_weak_bind), ONE(rebases, gm_rebase),
                              ONE(function_starts, gm_function_start),
-                             ONE(data_in_code, gm_data_in_code_entry), ONE(indirect_symbols, gm_indirect_symbol), ONE(slots, gm_slot),
+                             ONE(data_in_code, gm_data_in_code_entry), ONE(indirect_symbols, gm_indirect_symbol), ONE(slots, gm_slot), ONE(initializers, gm_initializer),
                              ONE(linker_options, gm_linker_option), ONE(build_tools, gm_build_tool), ONE(notes, gm_note),
                              ONE(all_sections, gm_numbered_section), ONE(build_versions, gm_build_version), ONE(dyld_environment, gm_command_text),
                              ONE(fileset_entries, gm_fileset_entry),
@@ -1204,9 +1213,40 @@ static void finds_by_bytes(const given *g) {
     }
 }
 
+/* Reads the strings of some bytes, and compares them with those of the library. */
+static void strings_by_bytes(const uint8_t *bytes, uint64_t len) {
+    static gm_span rows[LIMIT];
+    gm_span last;
+    uint64_t count = gm_strings(bytes, len, 0, rows, LIMIT), place = 0;
+    for (uint64_t k = 0; k < count; k++) {
+        const uint8_t *zero = place < len ? memchr(bytes + place, 0, len - place) : NULL;
+        uint64_t size = zero ? (uint64_t)(zero - (bytes + place)) : len - place;
+        if (place >= len || rows[k].place != place || rows[k].len != size) DIE("another string %" PRIu64, k);
+        place += size + 1;
+    }
+    if (count < LIMIT && place < len) DIE("strings are left out");
+    if (count && (gm_strings(bytes, len, count - 1, &last, 1) != 1 || memcmp(&last, &rows[count - 1], sizeof last))) DIE("another last string");
+    if (count < LIMIT && gm_strings(bytes, len, count, &last, 1)) DIE("a string after the last");
+}
+
+/* Compares the bytes of each section with those that its row gives, and reads its strings. */
+static void contents_by_bytes(const given *g) {
+    static gm_numbered_section rows[LIMIT];
+    uint64_t n = gm_all_sections(OF, 0, rows, LIMIT);
+    gm_error e;
+    for (uint64_t i = 0; i < n && !rows[i].section.code; i++) {
+        const gm_section *s = &rows[i].section;
+        gm_span held = {7, 7};
+        uint32_t code = gm_section_data(g->bytes, g->len, s->offset, s->size, s->flags, &held, &e);
+        if (code ? s->data_len || held.place != 7 || held.len != 7 || code != e.code : held.len != s->data_len || (held.len && held.place != s->offset))
+            DIE("other bytes of section %" PRIu64, i);
+        if (!code) strings_by_bytes(g->bytes + held.place, held.len);
+    }
+}
+
 static void check_tables(const given *g) {
-    static const char *const names[] = {"weak_binds", "rebases", "function_starts", "data_in_code", "indirect_symbols", "slots", "linker_options",
-        "build_tools",
+    static const char *const names[] = {"weak_binds", "rebases", "function_starts", "data_in_code", "indirect_symbols", "slots", "initializers",
+        "linker_options", "build_tools",
                                         "notes", "all_sections", "build_versions", "dyld_environment", "fileset_entries"};
     for (uint64_t i = 0; i < sizeof names / sizeof *names; i++) same_in_batches(named(names[i]), g);
     weak_binds_refused(g);
@@ -1220,6 +1260,7 @@ static void check_tables(const given *g) {
     lists_by_bytes(g);
     slots_by_bytes(g);
     finds_by_bytes(g);
+    contents_by_bytes(g);
 }
 
 static void check(const uint8_t *bytes, uint64_t len) {
@@ -1384,7 +1425,7 @@ static void check_names(void) {
         {gm_code_name(GM_OK), "ok"}, {gm_code_name(GM_NO_ROWS), "no rows"}, {gm_code_name(GM_NO_SPACE), "no space"},
         {gm_code_name(GM_NO_IMAGE), "no image for the cpu"}, {gm_code_name(GM_NO_IMAGE + 1), NULL},
         {gm_kind_name(gm_kind(NULL, 0)), "an empty file"}, {gm_kind_name(GM_KIND_FAT_64), "a fat file of 64 bits"}, {gm_kind_name(GM_KIND_UNKNOWN), NULL},
-        {gm_kind_name(GM_KIND_BITCODE + 1), NULL}, {gm_code_name(UINT32_MAX), NULL},
+        {gm_kind_name(GM_KIND_TEXT), "a text file"}, {gm_kind_name(GM_KIND_TEXT + 1), NULL}, {gm_code_name(UINT32_MAX), NULL},
         {gm_verdict_name(GM_VERDICT_PIE), "pie"}, {gm_verdict_meaning(GM_VERDICT_PIE), "loaded at a random address"}, {gm_verdict_name(0), NULL},
         {gm_verdict_name(GM_VERDICT_GET_TASK_ALLOW + 1), NULL}, {gm_verdict_meaning(UINT32_MAX), NULL},
         {gm_cpu_name(GM_CPU_TYPE_ARM64, GM_CPU_SUBTYPE_ARM64E | UINT32_C(0x80000000)), "arm64e"}, {gm_cpu_name(GM_CPU_TYPE_ARM64, 1), NULL},
@@ -1956,6 +1997,7 @@ static void check_edges(void) {
                               gm_rebases(g.bytes, g.len, &g.image, &r, NULL, 0, &count, NULL, NULL),
                               gm_function_starts(g.bytes, g.len, &g.image, &s, NULL, 0, &count, NULL, NULL),
                               gm_slots(g.bytes, g.len, &g.image, 0, NULL, 0, &count, NULL, NULL),
+                              gm_initializers(g.bytes, g.len, &g.image, 0, NULL, 0, &count, NULL, NULL),
                               gm_layout_faults(g.bytes, g.len, &g.image, 0, NULL, 0, &count, NULL, &e),
                               gm_signature_faults(g.bytes, g.len, &g.image, 0, NULL, 0, &count, NULL, &e),
                               gm_container_faults(g.bytes, g.len, 0, NULL, 0, &count, NULL, NULL)};

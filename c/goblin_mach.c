@@ -183,6 +183,17 @@ uint64_t gm_command_fields(const uint8_t *bytes, uint64_t len, const gm_image *i
     return gmr_command_fields(BYTES, len, image, command, first, AT(out), cap);
 }
 
+uint32_t gmr_section_data(const uint8_t *, uint64_t, uint32_t, uint64_t, uint32_t, gm_span *, gm_error *);
+uint32_t gm_section_data(const uint8_t *bytes, uint64_t len, uint32_t offset, uint64_t size, uint32_t flags, gm_span *found, gm_error *error) {
+    gm_error unread;
+    return gmr_section_data(BYTES, len, offset, size, flags, found, TOLD);
+}
+
+uint64_t gmr_strings(const uint8_t *, uint64_t, uint64_t, gm_span *, uint64_t);
+uint64_t gm_strings(const uint8_t *bytes, uint64_t len, uint64_t first, gm_span *out, uint64_t cap) {
+    return gmr_strings(BYTES, len, first, AT(out), cap);
+}
+
 uint64_t gmr_relocations(const uint8_t *, uint64_t, const gm_image *, uint32_t, uint32_t, uint64_t, gm_relocation *, uint64_t);
 uint64_t gm_relocations(const uint8_t *bytes, uint64_t len, const gm_image *image, uint32_t reloff, uint32_t nreloc, uint64_t first, gm_relocation *out,
                         uint64_t cap) {
@@ -203,6 +214,7 @@ BEHIND(rebases, gm_rebase, gm_rebase_cursor *)
 BEHIND(function_starts, gm_function_start, gm_start_cursor *)
 BEHIND(layout_faults, gm_layout_fault, uint64_t)
 BEHIND(slots, gm_slot, uint64_t)
+BEHIND(initializers, gm_initializer, uint64_t)
 BEHIND(signature_faults, gm_signature_fault, uint64_t)
 BEHIND(security, gm_verdict, uint64_t)
 

@@ -122,6 +122,25 @@ static uint64_t slots(const given *g) {
     return found;
 }
 
+static uint64_t initializers(const given *g) {
+    static gm_initializer rows[ROWS];
+    uint64_t found = 0, n;
+    gm_error e;
+    while (goes_on() && !gm_initializers(OF, found, rows, ROWS, &n, NULL, &e) && n) found += n;
+    return found;
+}
+
+/* Reads the strings of all bytes, in batches that go on after the last string. */
+static uint64_t strings(const given *g) {
+    static gm_span rows[ROWS];
+    uint64_t found = 0, from = 0, n;
+    while (goes_on() && from < g->len && (n = gm_strings(g->bytes + from, g->len - from, 0, rows, ROWS)) != 0) {
+        found += n;
+        from += rows[n - 1].place + rows[n - 1].len + 1;
+    }
+    return found;
+}
+
 static uint64_t signature_faults(const given *g) {
     static gm_signature_fault rows[ROWS];
     uint64_t found = 0, n;
@@ -329,6 +348,7 @@ static const struct { const char *name; uint64_t (*call)(const given *); } all[]
     CALL(resolve), CALL(commands), CALL(command_fields), CALL(segments), CALL(sections), CALL(relocations), CALL(symbols), CALL(libraries),
     CALL(run_paths), CALL(ids), CALL(data_in_code), CALL(indirect_symbols), CALL(linker_options), CALL(build_tools), CALL(notes), CALL(find), CALL(exports),
     CALL(tree), CALL(fixups), CALL(opcode_imports), CALL(bindings), CALL(weak_binds), CALL(rebases), CALL(function_starts), CALL(slots), CALL(slot_at),
+    CALL(initializers), CALL(strings),
     CALL(layout), CALL(entitlements), CALL(signature), CALL(signature_faults), CALL(security), CALL(requirements), CALL(all_sections),
     CALL(build_versions), CALL(dyld_environment), CALL(fileset_entries), CALL(said), CALL(parts_at), CALL(exports_each), CALL(audit)};
 

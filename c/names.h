@@ -277,6 +277,7 @@ const char *gm_kind_name(uint32_t kind) {
     case GM_KIND_PE: return "a PE or DOS program";
     case GM_KIND_ARCHIVE: return "an archive";
     case GM_KIND_BITCODE: return "LLVM bitcode";
+    case GM_KIND_TEXT: return "a text file";
     case GM_KIND_IMAGE: return "an image";
     case GM_KIND_FAT: return "a fat file";
     case GM_KIND_FAT_64: return "a fat file of 64 bits";

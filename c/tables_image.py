@@ -1,6 +1,6 @@
 #!/usr/bin/env python3
 """c/tables_image.py FOLDER writes two small images that have each list of the C interface. tables.macho has 64 bits and is little-endian, and
-tables32.macho has 32 bits and is big-endian. They have function starts, data in code, linker options, tools, notes, indirect symbols with
+tables32.macho has 32 bits and is big-endian. They have initializers, function starts, data in code, linker options, tools, notes, indirect symbols with
 stubs and pointers, rebases, weak binds, and what single commands say. No linker writes such an image. The lists are as llvm-objdump prints
 them."""
 import struct
@@ -67,7 +67,7 @@ class Image:
                      self.section(b"__text", b"__TEXT", TEXT, 0x20, text_at, 0x80000400),
                      self.section(b"__stubs", b"__TEXT", TEXT + 0x20, 20, text_at + 0x20, 0x80000408, 0, 6))
         self.segment(b"__DATA", DATA, 0x1000, data_at, data, 3,
-                     self.section(b"__data", b"__DATA", DATA, 8 * p, data_at, 0),
+                     self.section(b"__mod_init_func", b"__DATA", DATA, 8 * p, data_at, 9),
                      self.section(b"__la_symbol_ptr", b"__DATA", DATA + 8 * p, 2 * p, data_at + 8 * p, 7, 3),
                      self.section(b"__got", b"__DATA", DATA + 10 * p, 2 * p, data_at + 10 * p, 6, 5),
                      self.section(b"__thread_ptrs", b"__DATA", DATA + 12 * p, p, data_at + 12 * p, 0x14, 7),

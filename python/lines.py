@@ -57,6 +57,11 @@ def _slots(image: Image) -> Iterator[str]:
                f"{s.symbol or 0} {code_of(s.error)} {s.name or ''}")
 
 
+def _initializers(image: Image) -> Iterator[str]:
+    for i in image.initializers():
+        yield f"{i.slot:x} {i.target:x} {i.segment} {i.section_index} {code_of(i.error)}"
+
+
 def _linker_options(image: Image) -> Iterator[str]:
     for o in image.linker_options():
         yield f"{o.command:x} {code_of(o.error)} {o.text}"
@@ -142,6 +147,7 @@ LINES: Dict[str, Callable[[Image], Iterator[str]]] = {
     "data_in_code": _data_in_code,
     "indirect_symbols": _indirect_symbols,
     "slots": _slots,
+    "initializers": _initializers,
     "linker_options": _linker_options,
     "build_tools": _build_tools,
     "notes": _notes,

@@ -211,6 +211,7 @@ class Closed(Case):
             "weak_binds": one.weak_binds, "rebases": one.rebases, "function_starts": one.function_starts,
             "data_in_code": one.data_in_code, "indirect_symbols": one.indirect_symbols,
             "linker_options": one.linker_options, "build_tools": one.build_tools, "notes": one.notes, "symbol_slots": one.symbol_slots,
+            "section_data": lambda: [one.section_data(section)], "strings": lambda: one.strings(section), "initializers": one.initializers,
             "slot_at": lambda: [one.slot_at(0)], "section_at": lambda: [one.section_at(0)], "section_of": lambda: [one.section_of(0)],
             **{name: lambda name=name: [getattr(one, name)]
                for name in ("uuid", "platform", "minos", "sdk", "tools", "source_version", "encryption", "dylinker")},

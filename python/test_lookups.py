@@ -264,7 +264,8 @@ class Kinds(unittest.TestCase):
     def test_of_bytes(self):
         for data, wanted in ((made.image(), "image"), (made.fat(made.image()), "fat"), (bytes(goblin_mach.write_fat([], True)), "fat64"),
                              (b"!<arch>\n", "archive"), (b"!<thin>\n", "archive"), (b"\x7fELF", "ELF"), (b"MZ", "PE"),
-                             (b"\xca\xfe\xba\xbe\0\0\0\x34", "Java class"), (b"BC\xc0\xde", "bitcode"), (b"", "empty"), (b"hello", "unknown")):
+                             (b"\xca\xfe\xba\xbe\0\0\0\x34", "Java class"), (b"BC\xc0\xde", "bitcode"), (b"", "empty"), (b"hello", "text"),
+                             (b"\xff", "unknown")):
             self.assertEqual(goblin_mach.kind_of(data), wanted)
 
     def test_names_that_are_escaped(self):

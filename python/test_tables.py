@@ -8,7 +8,9 @@ import tempfile
 import unittest
 
 import goblin_mach
-from goblin_mach import BuildTool, DataInCode, DataKind, FunctionStart, IndirectSymbol, LinkerOption, Rebase, Refused, SymbolProvider, Tool, WeakBind
+from goblin_mach import (
+    BuildTool, DataInCode, DataKind, FunctionStart, IndirectSymbol, Initializer, LinkerOption, Rebase, Refused, SectionString, SymbolProvider, Tool, WeakBind,
+)
 
 TOP = os.path.dirname(os.path.dirname(os.path.abspath(__file__)))
 
@@ -151,6 +153,22 @@ class Tables(unittest.TestCase):
                 image.slot_at(0x2000 + 14 * p)
             with self.assertRaises(ValueError):
                 image.slot_at(1 << 64)
+
+    def test_initializers(self):
+        for p, image in self.of_both():
+            self.assertEqual(list(image.initializers()), [Initializer(0x2000 + k * p, 0x1000 + 8 * k, 1, 0, None) for k in range(8)])
+
+    def test_what_sections_hold(self):
+        for _, image in self.of_both():
+            text, past, bss = image.section("__TEXT", "__text"), image.section("__DATA", "__past"), image.section("__DATA", "__bss")
+            for section in (text, image.section_of(1)):
+                self.assertEqual(bytes(image.section_data(section)), bytes(range(32)))
+                self.assertEqual(image.strings(section)[:], [SectionString("", 0), SectionString(bytes(range(1, 32)).decode(), 1)])
+            self.assertEqual((image.section_data(bss).nbytes, list(image.strings(bss))), (0, []))
+            self.assertEqual(image.section_data(past), past.data)
+            for call in (image.section_data, image.strings):
+                with self.assertRaises(Refused):
+                    call(text._replace(size=1 << 40))
 
     def test_who_gives_a_symbol(self):
         for _, image in self.of_both():

@@ -58,7 +58,7 @@ class Json(unittest.TestCase):
     """Each item of each list of each sample is JSON, and its fields are back."""
 
     LISTS = ("commands", "segments", "sections", "libraries", "fixups", "imports", "opcode_imports", "exports", "weak_binds", "rebases", "layout_faults",
-             "function_starts", "linker_options", "build_tools", "notes", "symbol_slots", "signature_faults",
+             "function_starts", "linker_options", "build_tools", "notes", "symbol_slots", "initializers", "signature_faults",
              "build_versions", "dyld_environment", "fileset_entries")
 
     def test_of_each_item(self):
@@ -75,7 +75,8 @@ class Json(unittest.TestCase):
                 self.assertEqual(json.loads(image.json())["arch"], image.arch)
         kinds = {name for name, item in vars(goblin_mach).items() if isinstance(item, type) and issubclass(item, Item)}
         self.assertEqual(kinds - met, {"FatEntry", "Member", "ArchiveSymbol", "Owner", "NumberedSection", "SymbolProvider", "Relocation",
-                                       "SignatureFault", "Item", "Encryption", "FoundSymbol", "Function", "Answer", "UnusedFile", "Finding"})
+                                       "SignatureFault", "Item", "Encryption", "FoundSymbol", "Function", "Initializer",
+                                       "SectionString", "Answer", "UnusedFile", "Finding"})
 
     def test_names_and_bytes(self):
         one = goblin_mach.Image(made.with_symbols(b"_b\xff"))
@@ -238,8 +239,8 @@ class NotMachO(made.Case):
     WORDS = [
         (b"", "not Mach-O: an empty file"), (b"\x7fELF\2\1\1", "not Mach-O: an ELF file"), (b"MZ\x90", "not Mach-O: a PE or DOS program"),
         (b"\xca\xfe\xba\xbe\0\0\0\x34" + bytes(3000), "not Mach-O: a Java class"), (b"BC\xc0\xde", "not Mach-O: LLVM bitcode"),
-        (b"\xde\xc0\x17\x0b", "not Mach-O: LLVM bitcode"), (b"hello", "bad magic 0x68656c6c"), (b"hi", "malformed: the file ends in its magic"),
-        (b"\xca\xfe\xba\xbe", "bad magic 0xcafebabe"),
+        (b"\xde\xc0\x17\x0b", "not Mach-O: LLVM bitcode"), (b"hello", "not Mach-O: a text file"), (b"\xffhello", "bad magic 0xff68656c"),
+        (b"\xffh", "malformed: the file ends in its magic"), (b"\xca\xfe\xba\xbe", "bad magic 0xcafebabe"),
     ]
 
     def test_is_said_when_it_is_opened(self):

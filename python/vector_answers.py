@@ -333,6 +333,11 @@ def as_signed(image):
     return "yes" if found is not None and found.is_as_signed() else "no"
 
 
+def strings(image, vector):
+    section = image.section_of(vector.number)
+    return ["none"] if section is None else each(image.strings(section), lambda it: f"string {it.place:#x} {quoted(it.text)}")
+
+
 def requirement_line(name, text):
     return f"requirement {name} {text}" if text else "none"
 
@@ -407,6 +412,9 @@ LISTS_OF_IMAGES = {
     "build-tools": lambda image: each(image.build_tools(), lambda it: f"tool {it.tool} version {it.version:#x} of {it.command:#x}"),
     "notes": lambda image: each(image.notes(), lambda it: note(image, it)),
     "slots": lambda image: each(image.symbol_slots(), slot),
+    "initializers": lambda image: each(
+        image.initializers(), lambda it: f"initializer at {it.slot:#x} target {it.target:#x} segment {it.segment} section {it.section_index}"
+    ),
     "providers": lambda image: each(image.symbols(), lambda it: provided(image, it)),
     "exports": exports,
     "imports": all_imports,
@@ -420,7 +428,7 @@ LISTS_OF_IMAGES = {
     "entitlements": entitlements,
     "security": security,
 }
-LISTS_WITH_QUESTIONS = {"walk": walk, "requirement": requirement}
+LISTS_WITH_QUESTIONS = {"walk": walk, "requirement": requirement, "strings": strings}
 """Those of an image that get the vector, too."""
 LISTS_OF_FILES = {
     "entries": lambda data: each(goblin_mach.fat_entries(data), entry),

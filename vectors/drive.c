@@ -164,6 +164,15 @@ static void answer_section_of(asked *a) {
     say_section(a, code, &found);
 }
 
+static void answer_strings(asked *a) {
+    gm_found_section found;
+    uint32_t code = gm_section_of(IMAGE_OF, (size_t)number_of(a->to.b, "number", 0), &found, NULL, NULL);
+    if (!code && found.is_found) code = gm_section_data(FILE_OF, found.offset, found.size, found.flags, &a->held, NULL);
+    if (code || !found.is_found) say_or_error(a, code, "none");
+    else each_row(a, &list_of_strings);
+    say_end(a);
+}
+
 static void answer_archive_kind(asked *a) {
     static const char *const kinds[] = {"none", "gnu", "bsd", "thin"};
     uint32_t kind = 0, code = gm_archive_kind(FILE_OF, &kind, NULL);
@@ -255,7 +264,7 @@ typedef void answer_call(asked *a);
 static const struct { const char *call; answer_call *answer; bool is_of_image; } answers[] = {
     {"header", answer_header, true}, {"exports", answer_exports, true}, {"walk", answer_walk, true}, {"find", answer_find, true},
     {"imports", answer_imports, true}, {"slot-at", answer_slot_at, true}, {"section-at", answer_section_at, true},
-    {"section-of", answer_section_of, true}, {"signature", answer_signature, true}, {"as-signed", answer_as_signed, true},
+    {"section-of", answer_section_of, true}, {"strings", answer_strings, true}, {"signature", answer_signature, true}, {"as-signed", answer_as_signed, true},
     {"requirement", answer_requirement, true}, {"entitlements", answer_entitlements, true}, {"security", answer_security, true},
     {"archive-kind", answer_archive_kind, false}, {"archive-find", answer_archive_find, false}, {"member-named", answer_member_named, false},
     {"write-fat", answer_write_fat, false}, {"resolve", answer_resolve, false}, {"audit", answer_audit, false},

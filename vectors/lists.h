@@ -19,6 +19,7 @@ typedef struct {
     size_t segment_number, section_number; /* whose list is visited */
     gm_segment segment;
     gm_section section;
+    gm_span held; /* those whose strings are visited */
 } asked;
 
 #define PUT(...) put(&a->to.line, __VA_ARGS__)
@@ -286,6 +287,13 @@ LINE(slots, gm_slot,
      if (r->owner != GM_INDIRECT_SYMBOL) PUT("%s", r->owner <= GM_INDIRECT_LOCAL_ABSOLUTE ? owners[r->owner] : "(no kind)");
      else PUT("%" PRIu32 " ", r->symbol), put_text(a, r->name, r->name_len))
 
+BY_NUMBER_OR_REFUSED(initializers, gm_initializer, IMAGE_OF)
+LINE(initializers, gm_initializer,
+     PUT("initializer at 0x%" PRIx64 " target 0x%" PRIx64 " segment %zu section %" PRIu32, r->slot, r->target, r->segment, r->section_index))
+
+BY_NUMBER(strings, gm_span, a->bytes + a->held.place, a->held.len)
+LINE(strings, gm_span, PUT("string 0x%zx ", r->place); put_text(a, a->held.place + r->place, r->len))
+
 BY_CURSOR(opcode_imports, gm_import, binds)
 LINE(opcode_imports, gm_import,
      PUT("import ");
@@ -401,6 +409,7 @@ static const list lists_of_images[] = {
     LIST("build-tools", build_tools, gm_build_tool, CODE_OF(gm_build_tool)),
     LIST("notes", notes, gm_note, CODE_OF(gm_note)),
     LIST("slots", slots, gm_slot, CODE_OF(gm_slot)),
+    LIST("initializers", initializers, gm_initializer, CODE_OF(gm_initializer)),
     LIST("iter-imports", opcode_imports, gm_import, CODE_OF(gm_import)),
     LIST("bindings", bindings, gm_binding, CODE_OF(gm_binding)),
     LIST("weak-binds", weak_binds, gm_weak_bind, CODE_OF(gm_weak_bind)),
@@ -409,6 +418,7 @@ static const list lists_of_images[] = {
     LIST("layout", layout_faults, gm_layout_fault, NO_CODE),
     LIST("signature-faults", signature_faults, gm_signature_fault, NO_CODE),
 };
+static const list list_of_strings = LIST("", strings, gm_span, NO_CODE);
 static const list lists_of_files[] = {
     LIST("entries", entries, gm_fat_entry64, CODE_OF(gm_fat_entry64)),
     LIST("members", archive_members, gm_archive_member, CODE_OF(gm_archive_member)),

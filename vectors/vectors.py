@@ -9,12 +9,12 @@ OFTEN = set("row bytes change library number part want first last".split())
 # The calls, each with the key that it needs.
 CALLS = {
     **dict.fromkeys("header commands segments sections relocations symbols libraries run-paths ids function-starts data-in-code".split()),
-    **dict.fromkeys("indirect-symbols linker-options build-tools notes slots providers exports walk imports iter-imports bindings".split()),
-    **dict.fromkeys("weak-binds rebases fixups mach input entries images archive-kind members archive-symbols layout container".split()),
+    **dict.fromkeys("indirect-symbols linker-options build-tools notes slots providers initializers exports walk imports iter-imports".split()),
+    **dict.fromkeys("bindings weak-binds rebases fixups mach input entries images archive-kind members archive-symbols layout container".split()),
     **dict.fromkeys("signature signature-faults as-signed entitlements security resolve audit".split()),
     **dict.fromkeys("find archive-find member-named".split(), "name"),
     **dict.fromkeys("slot-at section-at".split(), "address"),
-    **dict.fromkeys("section-of write-fat command-names file-type-names header-flag-names platform-names".split(), "number"),
+    **dict.fromkeys("section-of strings write-fat command-names file-type-names header-flag-names platform-names".split(), "number"),
     **dict.fromkeys("symbol-type-names cpu-names relocation-names requirement".split(), "number"),
 }
 OF_TWO_NUMBERS = {"cpu-names", "relocation-names"}

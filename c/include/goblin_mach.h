@@ -60,9 +60,10 @@ typedef struct gm_arena { uint8_t *bytes; uint64_t size, used, blocks; } gm_aren
 gm_memory gm_arena_memory(gm_arena *arena);
 
 /* ---- what bytes are, by how they begin: an image, a fat file of 32 or 64 bits, an archive (also a thin one), a program or library of ELF or PE,
-   a Java class (whose magic is that of fat files), LLVM bitcode. A file that begins in this way may be cut, and may be refused when it is opened. */
+   a Java class (whose magic is that of fat files), LLVM bitcode, a text (of ASCII at its start, without control characters in the first 256 bytes). A
+   file that begins in this way may be cut, and may be refused when it is opened. */
 enum { GM_KIND_UNKNOWN, GM_KIND_EMPTY, GM_KIND_IMAGE, GM_KIND_FAT, GM_KIND_FAT_64, GM_KIND_ARCHIVE, GM_KIND_ELF, GM_KIND_PE, GM_KIND_JAVA_CLASS,
-       GM_KIND_BITCODE };
+       GM_KIND_BITCODE, GM_KIND_TEXT };
 uint32_t gm_kind(const uint8_t *bytes, uint64_t len);
 
 /* ---- a fat file: its entries; 0 if the bytes are no fat file. An entry is `size` bytes at bytes + offset. If these aren't all in the file, its
@@ -220,6 +221,16 @@ typedef struct gm_numbered_section {
 } gm_numbered_section;
 uint64_t gm_all_sections(const uint8_t *bytes, uint64_t len, const gm_image *image, uint64_t first, gm_numbered_section *out, uint64_t cap);
 
+/* ---- the bytes of a section, which is given by its `offset`, its `size` and its `flags`: they are `len` bytes at bytes + place. Both are 0 if it is
+   filled with zeros. The call is refused with GM_SHORT if they don't all lie in the bytes. A refused call leaves *found unchanged. */
+typedef struct gm_span { uint64_t place, len; } gm_span;
+uint32_t gm_section_data(const uint8_t *bytes, uint64_t len, uint32_t offset, uint64_t size, uint32_t flags, gm_span *found, gm_error *error);
+
+/* ---- the strings in the bytes that are passed, such as those of a section of type GM_S_CSTRING_LITERALS: each is `len` bytes at bytes + place, and
+   may be any bytes but zeros. A zero byte ends it, which the last may lack. `first` has a cost, since the strings before it are read: to go on in many,
+   pass the bytes after the last string and its zero. */
+uint64_t gm_strings(const uint8_t *bytes, uint64_t len, uint64_t first, gm_span *out, uint64_t cap);
+
 /* ---- the relocations of a section, which is given by its `reloff` and its `nreloc` */
 typedef struct gm_relocation { int32_t address; uint32_t info, code; } gm_relocation;
 uint64_t gm_relocations(const uint8_t *bytes, uint64_t len, const gm_image *image, uint32_t reloff, uint32_t nreloc, uint64_t first, gm_relocation *out,
@@ -366,6 +377,19 @@ uint32_t gm_slots(const uint8_t *bytes, uint64_t len, const gm_image *image, uin
 /* Finds the slot that holds an address. Its kind is GM_NO_SLOT if there is none. The call opens the image again, and allocates memory while it runs.
    It is also refused if that slot can't be read. A refused call leaves *slot unchanged. */
 uint32_t gm_slot_at(const uint8_t *bytes, uint64_t len, const gm_image *image, uint64_t address, gm_slot *slot, const gm_memory *memory, gm_error *error);
+
+/* ---- its initializers: the functions that dyld calls before its main function, each at `target`. The slot at the address `slot` names it, in the section
+   that has index `section_index` for gm_sections of the segment that has index `segment` for gm_segments. These are the sections in the bytes of type
+   GM_S_MOD_INIT_FUNC_POINTERS, with pointers, and of type GM_S_INIT_FUNC_OFFSETS, with offsets of 32 bits from the image's first byte. If an image has
+   chained fixups, dyld reads its pointers in the format of the segment of the first one. */
+typedef struct gm_initializer {
+    uint64_t slot, target, segment;
+    uint32_t section_index, code; /* code: GM_OK; or why the bytes of a section can't be read, and then the rest is 0 */
+} gm_initializer;
+
+/* Writes the initializers from index `first` on, as gm_slots does. It is also refused if the first fixup can't be read. */
+uint32_t gm_initializers(const uint8_t *bytes, uint64_t len, const gm_image *image, uint64_t first, gm_initializer *out, uint64_t cap, uint64_t *count,
+                         const gm_memory *memory, gm_error *error);
 
 /* ---- the provider of an undefined symbol, as the linker recorded it in images with GM_MH_TWOLEVEL. It comes from a number of the symbol alone,
    which dyld need not follow. For any other symbol `is_reported` and all other fields are 0. */
@@ -1602,6 +1626,12 @@ GM_FIELD(gm_indirect_symbol, kind, 0, 4);
 GM_FIELD(gm_indirect_symbol, symbol, 4, 4);
 GM_FIELD(gm_indirect_symbol, code, 8, 4);
 GM_SIZE(gm_indirect_symbol, 12);
+GM_FIELD(gm_initializer, slot, 0, 8);
+GM_FIELD(gm_initializer, target, 8, 8);
+GM_FIELD(gm_initializer, segment, 16, 8);
+GM_FIELD(gm_initializer, section_index, 24, 4);
+GM_FIELD(gm_initializer, code, 28, 4);
+GM_SIZE(gm_initializer, 32);
 GM_FIELD(gm_layout_fault, found, 0, 8);
 GM_FIELD(gm_layout_fault, limit, 8, 8);
 GM_FIELD(gm_layout_fault, command, 16, 8);
@@ -1749,6 +1779,9 @@ GM_FIELD(gm_slot, owner, 52, 4);
 GM_FIELD(gm_slot, symbol, 56, 4);
 GM_FIELD(gm_slot, code, 60, 4);
 GM_SIZE(gm_slot, 64);
+GM_FIELD(gm_span, place, 0, 8);
+GM_FIELD(gm_span, len, 8, 8);
+GM_SIZE(gm_span, 16);
 GM_FIELD(gm_start_cursor, place, 0, 8);
 GM_FIELD(gm_start_cursor, address, 8, 8);
 GM_FIELD(gm_start_cursor, stage, 16, 4);
@@ -1875,6 +1908,7 @@ GM_IS(GM_KIND_ELF, 6);
 GM_IS(GM_KIND_PE, 7);
 GM_IS(GM_KIND_JAVA_CLASS, 8);
 GM_IS(GM_KIND_BITCODE, 9);
+GM_IS(GM_KIND_TEXT, 10);
 GM_IS(GM_REQUIRED, 0);
 GM_IS(GM_WEAK, 1);
 GM_IS(GM_REEXPORT, 2);

@@ -4,6 +4,7 @@
 #ifndef GOBLIN_MACH_HPP
 #define GOBLIN_MACH_HPP
 #include "goblin_mach.h"
+#include <algorithm>
 #include <array>
 #include <cstddef>
 #include <exception>
@@ -153,6 +154,18 @@ struct of_entries {
     }
 };
 
+// The strings before an end, from a place on.
+struct of_strings {
+    const uint8_t *bytes;
+    uint64_t end, from;
+    uint64_t operator()(gm_span *out, uint64_t cap) {
+        uint64_t start = from, count = gm_strings(bytes + start, end - start, 0, out, cap);
+        for (uint64_t i = 0; i < count; i++) out[i].place += start;
+        if (count) from = std::min(end, out[count - 1].place + out[count - 1].len + 1);
+        return count;
+    }
+};
+
 } // namespace fills
 
 // An image at the start of some bytes.
@@ -180,7 +193,13 @@ class image {
         if (call(data, len, &numbers, by..., &row, memory, &error)) throw refusal(error);
         return row.is_found ? std::optional<Row>(row) : std::nullopt;
     }
-
+    template <typename Section>
+    gm_span bytes_of(const Section &section) const {
+        gm_span there;
+        gm_error error;
+        if (gm_section_data(data, len, section.offset, section.size, section.flags, &there, &error)) throw refusal(error);
+        return there;
+    }
 
 public:
     image(const uint8_t *bytes, uint64_t size, uint32_t mode = GM_STRICT, const gm_memory *with = nullptr) : data(bytes), len(size), memory(with) {
@@ -220,6 +239,18 @@ public:
         return found;
     }
 
+    // Return the bytes of a section, and the strings in it, by a row with its offset, its size and its flags. A string is text(it.place, it.len).
+    template <typename Section>
+    std::string_view section_data(const Section &section) const {
+        auto found = bytes_of(section);
+        return text(found.place, found.len);
+    }
+    template <typename Section>
+    auto strings(const Section &section) const {
+        auto found = bytes_of(section);
+        return rows<gm_span, fills::of_strings>({data, found.place + found.len, found.place});
+    }
+
     // ---- lists that open the image again: by a cursor, and by index
     auto function_starts() const { return after<gm_function_start, gm_start_cursor>(gm_function_starts); }
     auto fixups() const { return after<gm_fixup, gm_fixup_cursor>(gm_fixups); }
@@ -229,6 +260,7 @@ public:
     auto weak_binds() const { return after<gm_weak_bind, gm_bind_cursor>(gm_weak_binds); }
     auto rebases() const { return after<gm_rebase, gm_rebase_cursor>(gm_rebases); }
     auto slots() const { return counted<gm_slot>(gm_slots); }
+    auto initializers() const { return counted<gm_initializer>(gm_initializers); }
     auto layout_faults() const { return counted<gm_layout_fault>(gm_layout_faults); }
     auto signature_faults() const { return counted<gm_signature_fault>(gm_signature_faults); }
     auto security() const { return counted<gm_verdict>(gm_security); }

@@ -32,8 +32,8 @@ from .findings import VERDICTS, Audit, Finding, audit
 from .image import Image
 from .items import (
     ArchiveSymbol, BuildTool, BuildVersion, Command, CommandText, DataInCode, Encryption, Export, FatEntry, FilesetEntry, FoundSymbol, Function,
-    FunctionStart, IndirectSymbol, LayoutFault, Library, LinkerOption, Member, Note, NumberedSection, Owner, Relocation, Section, Segment, Symbol,
-    SymbolProvider, SymbolSlot,
+    FunctionStart, IndirectSymbol, Initializer, LayoutFault, Library, LinkerOption, Member, Note, NumberedSection, Owner, Relocation, Section,
+    SectionString, Segment, Symbol, SymbolProvider, SymbolSlot,
 )
 from .pointers import Binding, Fixup, Import, Rebase, WeakBind
 from .resolution import PLACES, Answer, FileRefused, Resolution, UnusedFile, resolve
@@ -55,6 +55,7 @@ __all__ = [
     "Export", "Owner", "LayoutFault",
     "WeakBind", "Rebase", "Signature", "SignatureFault",
     "FunctionStart", "DataInCode", "IndirectSymbol", "SymbolSlot", "SymbolProvider", "NumberedSection", "LinkerOption", "BuildTool", "Note",
+    "Initializer", "SectionString",
     "Item", "BuildVersion", "CommandText", "Encryption", "FilesetEntry", "FoundSymbol", "Function", "SymbolMap",
     "Mode", "STRICT", "LOSSY", "ErrorCode", "ERRORS", "NO_MEMORY", "BATCH", "FIXUPS", "PROVIDERS", "REBASES", "KINDS", "INDIRECT", "SLOTS", "EXPORTS",
     "audit", "Audit", "Finding", "VERDICTS",

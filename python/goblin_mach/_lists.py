@@ -13,7 +13,8 @@ from ._rows import Kind
 from .errors import ERRORS
 from .items import (
     ArchiveSymbol, BuildTool, BuildVersion, Command, CommandText, DataInCode, FatEntry, FilesetEntry, FoundSymbol, FunctionStart, IndirectSymbol,
-    LayoutFault, Library, LinkerOption, Member, Note, NumberedSection, Owner, Relocation, Section, Segment, Symbol, SymbolProvider, SymbolSlot,
+    Initializer, LayoutFault, Library, LinkerOption, Member, Note, NumberedSection, Owner, Relocation, Section, SectionString, Segment, Symbol,
+    SymbolProvider, SymbolSlot,
 )
 from .pointers import Binding, Fixup, Import, Rebase, WeakBind
 from .signature import SignatureFault
@@ -215,6 +216,14 @@ def slots(held: Held, raws: Raws, first: int) -> List[SymbolSlot]:
     ]
 
 
+def initializers(held: Held, raws: Raws, first: int) -> List[Initializer]:
+    return [Initializer(slot, target, segment, section, _error(code)) for slot, target, segment, section, code in raws]
+
+
+def strings(held: Held, raws: Raws, first: int) -> List[SectionString]:
+    return [SectionString(held.text(place, size), place) for place, size in raws]
+
+
 def found_symbol(held: Held, found: s.gm_found_symbol) -> Optional[FoundSymbol]:
     """Returns a symbol that was looked up, if it was found."""
     return FoundSymbol(SYMBOLS.items_of(held, found.symbol)[0], found.index, found.distance) if found.is_found else None
@@ -301,6 +310,8 @@ DYLD_ENVIRONMENT = Kind(lib.gm_dyld_environment, s.gm_command_text, command_text
 FILESET_ENTRIES = Kind(lib.gm_fileset_entries, s.gm_fileset_entry, fileset_entries, grows=True)
 NOTES = Kind(lib.gm_notes, s.gm_note, notes, grows=True)
 SLOTS_BY_NUMBER = Kind(lib.gm_slots, s.gm_slot, slots)
+INITIALIZERS = Kind(lib.gm_initializers, s.gm_initializer, initializers)
+STRINGS = Kind(lib.gm_strings, s.gm_span, strings, grows=True)
 FUNCTION_STARTS_BEHIND = Kind(lib.gm_function_starts, s.gm_function_start, function_starts)
 FIXUPS_BEHIND = Kind(lib.gm_fixups, s.gm_fixup, fixups)
 IMPORTS_BEHIND = Kind(lib.gm_opcode_imports, s.gm_import, imports)

@@ -2,13 +2,16 @@
 
 from __future__ import annotations
 
+import ctypes
 from functools import lru_cache
 from itertools import islice
 from typing import Any, Callable, Dict, Iterable, Iterator, List, NamedTuple, Optional, Tuple
 
+from . import _exports, _lists
+from . import _structs as s
 from ._library import escaped
 from ._memory import text
-from ._rows import Rows
+from ._rows import Kind, Rows, in_growing_batches, rows_behind
 from .errors import Refused
 from .image import Image
 from .items import Export, Section, Symbol
@@ -74,6 +77,33 @@ def _first_fault(image: Image, errors: Callable[[], Iterator[Optional[str]]]) ->
         return str(why)
 
 
+def _list_errors(image: Image) -> Dict[str, Callable[[], Iterator[Optional[str]]]]:
+    """Returns a function for each list that may have items which can't be read, by its name. It gives the `error` of each item. A list
+    of records ends with the bytes."""
+    live, pointer = image._live, image._pointer
+
+    def after(kind: Kind[Any], cursor: ctypes.Structure) -> Iterator[Optional[str]]:
+        return rows_behind(kind.errors(), live, pointer, cursor)
+
+    return {
+        "symbols": lambda: image.symbols().in_bounds().errors(),
+        "sections": lambda: image.sections().errors(),
+        "exports": lambda: _exports.errors(live, pointer),
+        "imports": lambda: after(_lists.BINDINGS_BEHIND, s.gm_binding_cursor()),
+        "weak binds": lambda: after(_lists.WEAK_BINDS_BEHIND, s.gm_bind_cursor()),
+        "rebases": lambda: after(_lists.REBASES_BEHIND, s.gm_rebase_cursor()),
+        "fixups": lambda: after(_lists.FIXUPS_BEHIND, s.gm_fixup_cursor()),
+        "function starts": lambda: after(_lists.FUNCTION_STARTS_BEHIND, s.gm_start_cursor()),
+        "data in code": lambda: image.data_in_code().in_bounds().errors(),
+        "indirect symbols": lambda: image.indirect_symbols().in_bounds().errors(),
+        "slots": lambda: in_growing_batches(_lists.SLOTS_BY_NUMBER.errors(), live, (pointer,)),
+        "initializers": lambda: in_growing_batches(_lists.INITIALIZERS.errors(), live, (pointer,)),
+        "linker options": lambda: image.linker_options().errors(),
+        "build tools": lambda: image.build_tools().errors(),
+        "notes": lambda: image.notes().errors(),
+    }
+
+
 def faults(image: Image) -> Iterator[Dict[str, str]]:
     """Yields what is wrong with an image: its layout, what doesn't match its signature, and the first fault of each list."""
     for name, found in (("layout", image.layout_faults()), ("signature", image.signature_faults())):
@@ -82,7 +112,7 @@ def faults(image: Image) -> Iterator[Dict[str, str]]:
                 yield {"part": name, "fault": str(fault)}
         except Refused as why:
             yield {"part": name, "fault": str(why)}
-    for name, errors in image._list_errors().items():
+    for name, errors in _list_errors(image).items():
         words = _first_fault(image, errors)
         if words is not None:
             yield {"part": name, "fault": words}

@@ -166,6 +166,14 @@ class gm_slot(ctypes.Structure):
     _fields_ = _u64("address len segment name name_len") + _u32("section_index kind index owner symbol code")
 
 
+class gm_initializer(ctypes.Structure):
+    _fields_ = _u64("slot target segment") + _u32("section_index code")
+
+
+class gm_span(ctypes.Structure):
+    _fields_ = _u64("place len")
+
+
 class gm_provider(ctypes.Structure):
     _fields_ = _u64("library") + _u32("provider is_reported code reserved")
 

@@ -26,8 +26,9 @@ if TYPE_CHECKING:
 
     StrOrBytesPath = Union[str, bytes, os.PathLike[str], os.PathLike[bytes]]
 
-KINDS = ("unknown", "empty", "image", "fat", "fat64", "archive", "ELF", "PE", "Java class", "bitcode")
-FOREIGN = {"empty": "an empty file", "ELF": "an ELF file", "PE": "a PE or DOS program", "Java class": "a Java class", "bitcode": "LLVM bitcode"}
+KINDS = ("unknown", "empty", "image", "fat", "fat64", "archive", "ELF", "PE", "Java class", "bitcode", "text")
+FOREIGN = {"empty": "an empty file", "ELF": "an ELF file", "PE": "a PE or DOS program", "Java class": "a Java class", "bitcode": "LLVM bitcode",
+           "text": "a text file"}
 """The words of the programs for the kinds of files that aren't Mach-O."""
 ARCHIVE_MAGIC = b"!<arch>\n"
 
@@ -37,8 +38,8 @@ def _held(data: Union[ReadableBuffer, Held]) -> Held:
 
 
 def kind_of(data: Union[ReadableBuffer, Held]) -> str:
-    """Returns what bytes are, by how they begin: "image", "fat", "fat64", "archive", "ELF", "PE", "Java class", "bitcode", "empty" or
-    "unknown"."""
+    """Returns what bytes are, by how they begin: "image", "fat", "fat64", "archive", "ELF", "PE", "Java class", "bitcode", "text",
+    "empty" or "unknown"."""
     held = _held(data).live()
     return KINDS[lib.gm_kind(held.at, held.len)]
 

@@ -15,13 +15,14 @@ from . import _structs as s
 from ._arch import arch_name
 from ._library import bits64, lib, refused
 from ._memory import Held, bytes_of
-from ._rows import Kind, Rows, in_growing_batches, rows_behind
+from ._rows import Rows, in_growing_batches, rows_behind
 from .entitlements import entitlements_of
 from .enums import CpuSubtype, CpuType, ErrorCode, FileType, HeaderFlags, LoadCommand, Mode, Platform, cpu_subtype
 from .errors import ERRORS, Refused, again
 from .items import (
     BuildTool, BuildVersion, Command, CommandText, DataInCode, Encryption, Export, FatEntry, FilesetEntry, FoundSymbol, Function, FunctionStart,
-    IndirectSymbol, LayoutFault, Library, LinkerOption, Note, NumberedSection, Relocation, Section, Segment, Symbol, SymbolProvider, SymbolSlot,
+    IndirectSymbol, Initializer, LayoutFault, Library, LinkerOption, Note, NumberedSection, Relocation, Section, SectionString, Segment, Symbol,
+    SymbolProvider, SymbolSlot,
 )
 from .pointers import Binding, Fixup, Import, Rebase, WeakBind
 from .signature import Signature, SignatureFault
@@ -39,7 +40,7 @@ class Image:
     archive that can't be opened. There it is the `Refused` with the reason, its numbers are 0, and each of its lists raises it.
 
     Lists are iterators. Those whose items have indices also have `len`, indices and slices (`Rows`). Those of exports, fixups, imports,
-    bindings, weak binds, rebases, function starts, slots and faults go on from where they stopped, and have none of these.
+    bindings, weak binds, rebases, function starts, slots, initializers and faults go on from where they stopped, and have none of these.
 
     `offset`: its offset in the bytes that it was opened in.
     `fat_offset`: the offset of these bytes in their file: 0, or that of an entry of a fat file.
@@ -163,6 +164,22 @@ class Image:
         found = self._section(lib.gm_section_named, *names)
         return None if found is None else self.sections(self.segments()[found.segment])[found.index]
 
+    def _bytes_of(self, section: Union[Section, NumberedSection]) -> Held:
+        held, found, error = self._live(), s.gm_span(), s.gm_error()
+        numbers = bits64(section.offset, 32), bits64(section.size), bits64(section.flags, 32)
+        if lib.gm_section_data(held.at, held.len, *numbers, ctypes.byref(found), ctypes.byref(error)):
+            raise refused(error)
+        return Held(held.view[found.place:found.place + found.len], held.life)
+
+    def section_data(self, section: Union[Section, NumberedSection]) -> memoryview:
+        """Returns the bytes of a section; none if it is zero-filled. If they don't all lie in `data`, it raises `Refused`."""
+        return self._bytes_of(section).view
+
+    def strings(self, section: Union[Section, NumberedSection]) -> Rows[SectionString]:
+        """Returns the strings of a section, as one of type `CSTRING_LITERALS` has them, whatever its type is. A zero byte ends each, and the last
+        may lack it. If the bytes of the section don't all lie in `data`, it raises `Refused`."""
+        return Rows(_lists.STRINGS, self._bytes_of(section).live)
+
     def relocations(self, section: Section) -> Rows[Relocation]:
         """Returns the relocations of a section. One that can't be read has an `error`."""
         return Rows(_lists.RELOCATIONS, self._live, (self._pointer, section.reloff, section.nreloc), table=lambda: (section.reloff, 8, section.nreloc))
@@ -217,6 +234,12 @@ class Image:
     def symbol_slots(self) -> Iterator[SymbolSlot]:
         """Returns its stubs and pointers that belong to symbols, section by section. One that can't be read has an `error`."""
         return in_growing_batches(_lists.SLOTS_BY_NUMBER, self._live, (self._pointer,))
+
+    def initializers(self) -> Iterator[Initializer]:
+        """Returns the functions that dyld calls before its main function, section by section (`MOD_INIT_FUNC_POINTERS` and
+        `INIT_FUNC_OFFSETS`). An `error` takes the place of a section whose bytes can't be read. If there are chained fixups of which the
+        first can't be read, it raises `Refused`."""
+        return in_growing_batches(_lists.INITIALIZERS, self._live, (self._pointer,))
 
     def slot_at(self, address: int) -> Optional[SymbolSlot]:
         """Returns the stub or pointer that holds an address, or None. One that can't be read raises `Refused`."""
@@ -405,31 +428,6 @@ class Image:
     def _run_path_rows(self) -> Rows[Tuple[Any, ...]]:
         """Returns the same for `run_paths()`."""
         return Rows(_lists.RUN_PATH_ROWS, self._live, (self._pointer,), lambda: int(self._numbers.run_paths))
-
-    def _errors_after(self, kind: Kind[Any], cursor: ctypes.Structure) -> Iterator[Optional[str]]:
-        """Returns the `error` of each item of a list that goes on from a cursor, which begins as zeros."""
-        return rows_behind(kind.errors(), self._live, self._pointer, cursor)
-
-    def _list_errors(self) -> Dict[str, Callable[[], Iterator[Optional[str]]]]:
-        """Returns a function for each list that may have items which can't be read, by its name. It gives the `error` of each item. A list
-        of records ends with the bytes."""
-        after, given = self._errors_after, (self._pointer,)
-        return {
-            "symbols": lambda: self.symbols().in_bounds().errors(),
-            "sections": lambda: self.sections().errors(),
-            "exports": lambda: _exports.errors(self._live, self._pointer),
-            "imports": lambda: after(_lists.BINDINGS_BEHIND, s.gm_binding_cursor()),
-            "weak binds": lambda: after(_lists.WEAK_BINDS_BEHIND, s.gm_bind_cursor()),
-            "rebases": lambda: after(_lists.REBASES_BEHIND, s.gm_rebase_cursor()),
-            "fixups": lambda: after(_lists.FIXUPS_BEHIND, s.gm_fixup_cursor()),
-            "function starts": lambda: after(_lists.FUNCTION_STARTS_BEHIND, s.gm_start_cursor()),
-            "data in code": lambda: self.data_in_code().in_bounds().errors(),
-            "indirect symbols": lambda: self.indirect_symbols().in_bounds().errors(),
-            "slots": lambda: in_growing_batches(_lists.SLOTS_BY_NUMBER.errors(), self._live, given),
-            "linker options": lambda: self.linker_options().errors(),
-            "build tools": lambda: self.build_tools().errors(),
-            "notes": lambda: self.notes().errors(),
-        }
 
     def find_export(self, name: str) -> Optional[Export]:
         """Returns the export of a name from the image, or None."""

@@ -285,6 +285,21 @@ class SymbolSlot(Item, NamedTuple("SymbolSlot", [
     __slots__ = ()
 
 
+class Initializer(Item, NamedTuple("Initializer", [
+    ("slot", int), ("target", int), ("segment", int), ("section_index", int), ("error", Optional[str]),
+])):
+    """A function that dyld calls before the image's main function, at the address `target`. The slot at the address `slot` names it, in the
+    section with index `section_index` of the segment with index `segment`. An `error` takes the place of a section whose bytes can't be read."""
+
+    __slots__ = ()
+
+
+class SectionString(Item, NamedTuple("SectionString", [("text", str), ("place", int)])):
+    """A string of a section: its `text`, and its `place`, counted from the section's first byte. Bytes that aren't UTF-8 are surrogates."""
+
+    __slots__ = ()
+
+
 class SymbolProvider(Item, NamedTuple("SymbolProvider", [("provider", str), ("library", int), ("error", Optional[str])])):
     """The provider of an undefined symbol, as the linker recorded it. `provider` is "library" (`library` is its ordinal), "itself",
     "program" or "any". One that can't be read has an `error`."""

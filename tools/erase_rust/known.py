@@ -15,7 +15,8 @@ METHODS = set("""
     contains_key copied copy_from_slice debug_struct debug_tuple div_ceil encode_utf8 enumerate err field filter filter_map finish get get_index_of into is_ascii_digit
     is_char_boundary is_empty is_err is_none is_ok is_some iter len map max min next ok or partition_point pop position push push_reserved rotate_left
     rotate_right saturating_add saturating_mul saturating_sub simd_eq simd_ge sort_unstable sort_unstable_by_key split_at split_first starts_with
-    strip_prefix strip_suffix to_be_bytes to_bitmask trailing_zeros truncate try_into unsigned_abs unwrap unwrap_or wrapping_add wrapping_mul write_str
+    strip_prefix strip_suffix to_be_bytes to_bitmask trailing_zeros trim_ascii truncate try_into unsigned_abs unwrap unwrap_or wrapping_add wrapping_mul
+    write_str
 """.split())
 
 # Types of std, and their functions that mean the same in Rust.

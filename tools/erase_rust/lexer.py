@@ -74,7 +74,7 @@ class Lexer:
         return self.block_end(met.end())
 
     def ghost_end(self):
-        """Returns the place after the ghost item that begins here: `ghost use PATH;` or `ghost NAME [: {..}] [= {..}]` with `;` or `,`."""
+        """Returns the place after the ghost item that begins here: `ghost use PATH;` or `ghost NAME [: {..}] [by {..}] [= {..}]` with `;` or `,`."""
         met = GHOST.match(self.text, self.at)
         if met is None:
             self.refuse("a ghost item of another form: " + self.shown())
@@ -85,6 +85,8 @@ class Lexer:
                 at = self.block_end(at)
             elif met.group(1) or char.isspace() or char in ":=":
                 at += 1
+            elif self.text.startswith("by {", at):
+                at += len("by ")
             elif char == ",":
                 return at + 1
             elif char == "}":  # the last field of a struct, without a comma

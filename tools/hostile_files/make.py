@@ -317,6 +317,14 @@ def relocations(size):
     return image([segment(b"__DATA", 0, 0x1000, 0, 0, count, 64, body)], bytes(8 * rows), kind=1)
 
 
+def contents(size, number):
+    """Returns an image with sections of one type that all hold the whole file, in which no zero is after them."""
+    count = size // 160
+    record = b"__text".ljust(16, b"\0") + b"__TEXT".ljust(16, b"\0") + struct.pack("<2Q", 0, size) + words(0, 0, 0, 0, number, 0, 0, 0)
+    made = image([segment(b"__DATA", 0, 0x1000, 0, size, count, 64, record * count)])
+    return made + b"a" * (size - len(made))
+
+
 def far_section(size):
     """Returns an image with many segments without sections, and then one with a section, whose relocations all refer to that section by its number."""
     count, rows = size // 76, size // 160
@@ -465,6 +473,8 @@ def files(size):
         "tables_%d" % size: tables(size),
         "relocations_%d" % size: relocations(size),
         "segments_%d" % size: segments(size),
+        # Sections of strings, of pointers to functions and of their offsets: 6 * 10^7 bytes of each.
+        **{"contents_%d_%d" % (it, size): contents(size, it) for it in (0x2, 0x9, 0x16)},
         "libraries_%d" % size: libraries(size),
         "binds_%d" % size: bind_again(size),
         "imports_%d" % size: chain_of_imports(size),

@@ -4,7 +4,7 @@ from collections import namedtuple
 
 from .opcodes import Binding, binding_line, opcode_bindings, opcode_rebases
 from .providers import is_provider
-from .reading import WORD, Layout, bad_offset, bits, number, read, require, signed, text, words
+from .reading import WORD, Fault, Layout, attempt, bad_offset, bits, number, read, require, signed, text, words
 
 HEADER = Layout("Header", "fixups_version starts_offset imports_offset symbols_offset imports_count imports_format symbols_format")
 STARTS = Layout("Starts", "size page_size:2 pointer_format:2 segment_offset:8 max_valid_pointer page_count:2")
@@ -205,4 +205,40 @@ def rebases(image, _):
                         f"offset {fixup.offset:#x} target {fixup.pointer.value:#x}", signed_words(fixup.pointer.auth))
 
 
-LISTS = {"fixups": fixups, "bindings": bindings, "rebases": rebases}
+INIT_POINTERS, INIT_OFFSETS = 0x09, 0x16
+
+
+def pointer_reader(image):
+    """Returns a function that gives the target of a stored pointer. With chains it reads one as the segment of the first fixup stores them."""
+    chains = chains_of(image)
+    first = next(chains.fixups(), None) if chains else None
+    if first is None:
+        return lambda word: word
+    starts = next(span.starts for span in chains.spans() if span.index == first.index)
+    shape = FORMATS[starts.pointer_format]
+
+    def target(word):
+        pointer = shape.read(word, shape, chains.base, starts.max_valid_pointer)
+        return pointer.value if pointer.kind == "rebase" else word
+    return target
+
+
+def initializers(image, _):
+    target = pointer_reader(image)
+    for section in image.readable_sections():
+        record = section.record
+        kind = record.flags & 0xff
+        if kind not in (INIT_POINTERS, INIT_OFFSETS):
+            continue
+        held = attempt(image.section_data, record)
+        if isinstance(held, Fault):
+            yield held
+            continue
+        width = image.pointer if kind == INIT_POINTERS else 4
+        for place in range(0, len(held) - width + 1, width):
+            word = number(held, place, width, image.order)
+            value = target(word) if kind == INIT_POINTERS else (image.base() + word) % WORD
+            yield f"initializer at {(record.addr + place) % WORD:#x} target {value:#x} segment {section.segment} section {section.section}"
+
+
+LISTS = {"initializers": initializers, "fixups": fixups, "bindings": bindings, "rebases": rebases}

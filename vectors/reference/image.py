@@ -168,6 +168,9 @@ class Image:
         in_file = record.offset + record.size <= len(self.data) and record.flags & 0xff not in ZERO_FILL
         return record.size if in_file else 0
 
+    def section_data(self, record):
+        return b"" if record.flags & 0xff in ZERO_FILL else read(memoryview(self.data), record.offset, record.size)
+
     def symbol(self, index):
         """Reads the record and the name of a symbol of the table."""
         layout = SYMBOL[self.is_64]

@@ -174,17 +174,38 @@ def section_at(image, vector):
     return next((found(section) for section in image.readable_sections() if holds(section, vector.address)), "none")
 
 
-def section_of(image, vector):
-    """Returns the line of the section of a number, which counts the sections of all segments from 1."""
-    left = vector.number - 1
+def numbered(image, wanted):
+    """Returns the section of a number, which counts the sections of all segments from 1, or None."""
+    left = wanted - 1
     for index, segment in enumerate(image.segments):
         if 0 <= left < segment.nsects:
-            return found(image.numbered_section(index, left))
+            return image.numbered_section(index, left)
         left -= segment.nsects
-    return "none"
+    return None
+
+
+def section_of(image, vector):
+    section = numbered(image, vector.number)
+    return "none" if section is None else found(section)
+
+
+def strings(image, vector):
+    """Yields the strings of the section of a number. The last may lack its zero."""
+    section = numbered(image, vector.number)
+    if section is None:
+        yield "none"
+        return
+    if isinstance(section.record, Fault):
+        raise section.record
+    place = 0
+    held = image.section_data(section.record)
+    while place < len(held):
+        string = bytes(held[place:]).split(b"\0", 1)[0]
+        yield f"string {place:#x} {quoted(string)}"
+        place += len(string) + 1
 
 
 LISTS = {"function-starts": function_starts, "data-in-code": data_in_code, "linker-options": linker_options,
          "build-tools": build_tools, "notes": notes, "indirect-symbols": indirect_symbols, "slots": slots,
-         "providers": providers}
+         "providers": providers, "strings": strings}
 SINGLES = {"slot-at": slot_at, "section-at": section_at, "section-of": section_of}

@@ -21,6 +21,8 @@ pub mod TableFacts
 pub mod SaidFacts
 pub mod StreamFacts
 pub mod SlotFacts
+pub mod NextStrings
+pub mod InitializerRuns
 pub mod NamedItems
 pub mod NearestItems
 pub mod NearestRecords
@@ -43,3 +45,4 @@ pub mod InputFiles
 pub mod Items
 pub mod BytesFacts
 pub mod OneListOfFaults
+pub mod AddressMaps

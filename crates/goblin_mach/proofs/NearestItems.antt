@@ -9,10 +9,9 @@ use Rattle.std.proofs.lemmas.Bool.{cases_lt}
 use Rattle.std.proofs.lemmas.Option.{slice_get_within}
 use Rattle.std.proofs.Common.{IfSome, min, sym, ◌∙◌}
 use Rattle.std.proofs.lemmas.List.{append-nil, length-map}
-use Rattle.std.proofs.Common.{map, take, get_or, ◌-◌, ◌^◌}
+use Rattle.std.proofs.Common.{map, get_or, ◌-◌, ◌^◌}
 use Rattle.std.proofs.Math.ListN.{get_or-map}
 use Rattle.std.proofs.lemmas.List.Sums.{sum_by_more}
-use Rattle.std.specs.Prelude.{sum_by}
 use Rattle.mach_base.specs.Fault.{Fault}
 use Rattle.mach_load.proofs.StartLaws.{one_start_list, starts_ascend}
 use Rattle.mach_load.specs.FunctionStarts.{start_range_at}
@@ -20,6 +19,7 @@ use Rattle.mach_parts.specs.Segment.{SegmentView, segment_view}
 use Rattle.mach_parts.specs.Symbols.{SymbolTable, symbols_of, table_in_bounds}
 use Rattle.mach_parts.specs.declared.segment.Segment.{Segment}
 use Rattle.mach_parts.specs.declared.segment.numbered.NumberedSection.{NumberedSection}
+use Rattle.goblin_mach.specs.AddressMaps.{claimed_before}
 use Rattle.goblin_mach.specs.Tables.{AreStartsAt}
 use Rattle.goblin_mach.specs.declared.macho.nearest.Function.{Function}
 use Rattle.mach_base.specs.Number.{place_after}
@@ -27,7 +27,7 @@ use Rattle.mach_records.specs.declared.segments.Section64.{Section64}
 use Rattle.mach_parts.specs.declared.symbols.nlist.Nlist.{Nlist}
 use Rattle.goblin_mach.specs.NamedParts.{symbols_within}
 use Rattle.goblin_mach.specs.NearestSymbol.{is_below, is_nearer, section_number, IsBelow, IsNearestIn, IsSymbolAt, IsFunctionAt, IsAround, IsAscending}
-use Rattle.goblin_mach.specs.NearestSymbol.{IsFunction, IsFunctionIn, IsStart, IsStartBelow}
+use Rattle.goblin_mach.specs.NearestSymbol.{IsFunctionIn, IsStart, IsStartBelow}
 use Rattle.goblin_mach.specs.declared.macho.nearest.SymbolAt.{SymbolAt}
 
 -- ---- an item after those before it
@@ -318,12 +318,10 @@ pub function_found : (held : Option NumberedSection) (h : NumberedSection) (item
     → held ≡ Some h → starts ≡ items → IsFunctionIn starts h.section a found → IsFunctionAt items held a found
 function_found held h items starts a found held_is same is = rw held_is (rw same at is)
 
--- the number of a section after one more segment
-pub counted_more : (segments : List Segment) (i number first : ℕ) (d : Segment) → i < length segments
-    → number ≡ min (first + sum_by (λ v. v.command.nsects) (take i (map segment_view segments))) (2 ^ 64 - 1)
-    → min (number + (get_or segments i d).nsects) (2 ^ 64 - 1)
-    ≡ min (first + sum_by (λ v. v.command.nsects) (take (i + 1) (map segment_view segments))) (2 ^ 64 - 1)
-counted_more segments i number first d inside before =
+-- how many sections segments claim with one more
+pub counted_more : (segments : List Segment) (i claimed : ℕ) (d : Segment) → i < length segments → claimed ≡ claimed_before (map segment_view segments) i
+    → min (claimed + (get_or segments i d).nsects) (2 ^ 64 - 1) ≡ claimed_before (map segment_view segments) (i + 1)
+counted_more segments i claimed d inside before =
     let more = sum_by_more (λ (v : SegmentView). v.command.nsects) (map segment_view segments) i (segment_view d)
     (omega (arith, inside, length-map segments segment_view)) in
     let last = ap (λ (v : SegmentView). v.command.nsects) (get_or-map segment_view segments i d) in

@@ -1,11 +1,10 @@
 -- The nearest symbol by the records of a table: names are read only of symbols that may be the answer.
-use Rattle.std.proofs.Common.{◌≡◌, ℕ, zero, suc, ◌+◌, ◌-◌, ◌<◌, Bool, true, false, List, [], ◌∷◌, ◌++◌, Option, Some, None, Result, Ok, Err}
-use Rattle.std.proofs.Common.{refl, ap, sym, subst, ◌∙◌, arith, slice_get}
+use Rattle.std.proofs.Common.{◌≡◌, ℕ, zero, suc, ◌+◌, ◌-◌, Bool, true, false, List, [], ◌∷◌, ◌++◌, Option, Some, None, Result, Ok, Err}
+use Rattle.std.proofs.Common.{refl, ap, sym, subst, ◌∙◌, arith}
 use Rattle.mach_base.specs.Answer.{◌>>=◌}
 use Rattle.mach_base.specs.Fault.{Fault}
 use Rattle.mach_base.specs.Items.{items_from}
 use Rattle.mach_base.specs.Number.{place_after}
-use Rattle.mach_base.specs.Text.{text_at}
 use Rattle.mach_base.proofs.Binds.{bind_ok}
 use Rattle.mach_base.proofs.ItemLists.{length-items_from, slice_get-items}
 use Rattle.mach_parts.specs.Symbols.{SymbolTable, symbol_at, symbol_record_at, symbols_of}

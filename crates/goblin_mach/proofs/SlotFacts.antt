@@ -1,13 +1,18 @@
--- Facts on the slots, the providers and the numbered sections of an opened image.
+-- Facts on the slots, the providers and the sections of an opened image.
 use Rattle.std.proofs.Common.{◌≡◌, ℕ}
 use Rattle.mach_base.specs.Text.{texts}
-use Rattle.mach_parts.specs.SectionRecord.{section_holding, section_by_number}
+use Rattle.mach_parts.specs.SectionRecord.{section_holding, section_by_number, bytes_of_section}
+use Rattle.mach_records.specs.declared.segments.Section64.{Section64}
 use Rattle.mach_parts.specs.declared.symbols.nlist.Nlist.{Nlist}
 use Rattle.goblin_mach.specs.ImageSlots.{indirect_symbols_in, indirect_table_in, indirect_table_view, symbol_table_view, image_slots, image_slot_at}
 use Rattle.goblin_mach.specs.ImageSlots.{symbol_provider_of}
-use Rattle.goblin_mach.specs.Modes.{HoldsAs}
-use Rattle.goblin_mach.specs.OpenImage.{ctx_view, segments_view}
+use Rattle.goblin_mach.specs.Fixups.{chained_in, chained_view}
+use Rattle.goblin_mach.specs.Initializers.{AreImageInitializers}
+use Rattle.goblin_mach.specs.Modes.{Agrees, HoldsAs}
+use Rattle.goblin_mach.specs.OpenImage.{bytes_view, ctx_view, segments_view}
 use Rattle.goblin_mach.specs.SlotFacts.{HasIndirectSymbols, HasSymbolSlots, HasSymbolSlotAt, HasProviderOf, HasSectionAt, HasSectionOf}
+use Rattle.goblin_mach.specs.SlotFacts.{HasSectionData, HasStringsOf, HasInitializers}
+use Rattle.goblin_mach.specs.Strings.{strings_of_section}
 use Rattle.goblin_mach.specs.declared.macho.MachO.{MachO}
 use Rattle.goblin_mach.proofs.ImageFacts.{said_of}
 
@@ -30,3 +35,12 @@ module _ {A : Type 0} (m : MachO A) where
 
   pub section_of_is : (n : ℕ) → HoldsAs m (λ bytes o. HasSectionOf bytes o n) (section_by_number (segments_view m) n)
   section_of_is n = said_of m (λ found f. found ≡ section_by_number f.segments n)
+
+  pub section_data_is : (s : Section64) → HoldsAs m (λ bytes o. HasSectionData bytes o s) (bytes_of_section (bytes_view m) s)
+  section_data_is s = said_of m (λ found f. found ≡ bytes_of_section f.bytes s)
+
+  pub strings_are : (s : Section64) → HoldsAs m (λ bytes o. HasStringsOf bytes o s) (strings_of_section (bytes_view m) s)
+  strings_are s = said_of m (λ found f. found ≡ strings_of_section f.bytes s)
+
+  pub initializers_are : Agrees m HasInitializers (AreImageInitializers (ctx_view m) (bytes_view m) (chained_view m) (segments_view m))
+  initializers_are = said_of m (λ found f. AreImageInitializers f.ctx f.bytes (chained_in f.ctx f.bytes f.commands) f.segments found)

@@ -25,6 +25,8 @@ pub mod ImageStreams
 pub mod RebasesLeft
 pub mod StreamFacts
 pub mod ImageSlots
+pub mod Strings
+pub mod Initializers
 pub mod SlotFacts
 pub mod NamedParts
 pub mod NamedLeft
@@ -49,3 +51,4 @@ pub mod ItemsLeft
 pub mod Held
 pub mod ListFaults
 pub mod LayoutFacts
+pub mod AddressMaps

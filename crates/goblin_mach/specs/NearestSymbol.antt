@@ -84,6 +84,11 @@ abbrev pub IsStartBelow : List (Result ℕ Fault) → ℕ → Option ℕ → Typ
 IsStartBelow items a None = (start : ℕ) → IsStart items start → start ≤ a → ⊥
 IsStartBelow items a (Some begin) = IsStart items begin × (begin ≤ a) × ((start : ℕ) → IsStart items start → start ≤ a → start ≤ begin)
 
+-- the least start after an address; none if no function begins there
+abbrev pub IsStartAfter : List (Result ℕ Fault) → ℕ → Option ℕ → Type 0
+IsStartAfter items a None = (start : ℕ) → IsStart items start → a < start → ⊥
+IsStartAfter items a (Some end) = IsStart items end × (a < end) × ((start : ℕ) → IsStart items start → a < start → end ≤ start)
+
 -- The starts on both sides of an address: the greatest at or below it, and the least after it, or a limit if that is before.
 pub record IsAround (items : List (Result ℕ Fault)) (a limit : ℕ) (begin : Option ℕ) (end : ℕ) : Type 0 where
   pub below : IsStartBelow items a begin

@@ -1,17 +1,18 @@
 //! What an image has at an address.
 
 ghost use Rattle.std.specs.Prelude.{◌≡◌, ℕ, List};
-ghost use Rattle.goblin_mach.specs.OpenImage.{IsImage};
+ghost use Rattle.goblin_mach.specs.OpenImage.{IsLossyImage};
 ghost use Rattle.goblin_mach.specs.AddressFound.{IsFoundAt};
 
-// The memory of the segments and of the sections.
+// The memory of the segments and of the sections, and many look-ups.
+mod map;
 mod memory;
 mod segments;
 mod stretches;
 
+pub use crate::addresses::map::AddressMap;
 pub use crate::addresses::segments::{AllStretches, SegmentStretches};
 pub use crate::addresses::stretches::{Stretch, Stretches};
-use crate::laws;
 use crate::macho::{Function, MachO, SymbolAt};
 use mach_parts::segment::NumberedSection;
 use std::alloc::Allocator;
@@ -30,11 +31,8 @@ pub struct FoundAt<'a> {
 impl<'a> FoundAt<'a> {
     /// Looks up an address in an image.
     pub fn look_up<A: Allocator>(image: &MachO<'a, A>, address: u64) -> FoundAt<'a>
-        ensures { (bytes : List ℕ) → IsImage bytes 0 image.now → IsFoundAt bytes address result }
+        ensures { (bytes : List ℕ) → IsLossyImage bytes 0 image.now → IsFoundAt bytes address result }
     {
-        laws::section_at_of_image(image);
-        laws::symbol_at_of_image(image);
-        laws::function_at_of_image(image);
         FoundAt {
             section: image.section_at(address),
             symbol: image.symbol_at(address),

@@ -12,6 +12,7 @@ ghost use Rattle.mach_dyld.specs.Walks.{HasGiven};
 ghost use Rattle.goblin_mach.specs.Image.{Opens, LossyOpens, ImageFault, LossyFault};
 ghost use Rattle.goblin_mach.specs.Subjects.{ListsImageImports, ImageImportsFault, ListsImageExports, ImageExportsFault, trie_len, trie_or_empty};
 
+mod contents;
 mod debug;
 mod dyld;
 pub mod look_up;
@@ -27,7 +28,7 @@ mod tables;
 use crate::fields::Fields;
 pub use crate::macho::named_symbols::NamedSymbols;
 pub use crate::macho::nearest::{Function, SymbolAt};
-pub(crate) use crate::macho::nearest::{distance_above, section_number};
+pub(crate) use crate::macho::nearest::{claimed_before, distance_above, section_number};
 use crate::opened::Opened;
 use crate::relocations::{RelocatedSection, relocations};
 use mach_base::{Ctx, Result};

@@ -47,4 +47,5 @@ pub mod LayoutRows
 pub mod ArchiveRows
 pub mod GivenFiles
 pub mod ResolveRows
+pub mod ContentRows
 pub mod AuditRows

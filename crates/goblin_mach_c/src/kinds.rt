@@ -1,10 +1,10 @@
 //! What bytes are, by how they begin.
 
 ghost use Rattle.std.specs.Prelude.{◌≡◌};
-ghost use Rattle.goblin_mach_c.specs.KindNumbers.{container_number, foreign_number, kind_number};
+ghost use Rattle.goblin_mach_c.specs.KindNumbers.{fat_number, foreign_number, kind_number};
 
 use goblin_mach::first_bytes::{begins_image, foreign_kind};
-use goblin_mach::{FAT_MAGIC_64, Foreign, begins_archive, peek};
+use goblin_mach::{FAT_MAGIC_64, Foreign, peek};
 use mach_parts::fat::FAT_MAGIC;
 
 /// They show no kind.
@@ -37,6 +37,9 @@ pub const GM_KIND_JAVA_CLASS: u32 = 8;
 /// LLVM bitcode.
 pub const GM_KIND_BITCODE: u32 = 9;
 
+/// A text.
+pub const GM_KIND_TEXT: u32 = 10;
+
 // Returns the number of a kind that isn't Mach-O.
 fn foreign_number(kind: Foreign) -> u32
     ensures { result ≡ foreign_number kind }
@@ -48,16 +51,14 @@ fn foreign_number(kind: Foreign) -> u32
         Foreign::Pe => GM_KIND_PE,
         Foreign::Archive => GM_KIND_ARCHIVE,
         Foreign::Bitcode => GM_KIND_BITCODE,
+        Foreign::Text => GM_KIND_TEXT,
     }
 }
 
-// Returns the number of a fat file or of an archive that the bytes begin as.
-fn container_number(bytes: &[u8]) -> u32
-    ensures { result ≡ container_number bytes.now }
+// Returns the number of a fat file that the bytes begin as.
+fn fat_number(bytes: &[u8]) -> u32
+    ensures { result ≡ fat_number bytes.now }
 {
-    if begins_archive(bytes) {
-        return GM_KIND_ARCHIVE;
-    }
     match peek(bytes, 0) {
         Ok(FAT_MAGIC) => GM_KIND_FAT,
         Ok(FAT_MAGIC_64) => GM_KIND_FAT_64,
@@ -75,6 +76,6 @@ pub extern "C" fn gmr_kind(bytes: &[u8]) -> u32
     }
     match foreign_kind(bytes) {
         Some(kind) => foreign_number(kind),
-        None => container_number(bytes),
+        None => fat_number(bytes),
     }
 }

@@ -7,6 +7,7 @@ mod archive_find;
 mod audit;
 mod bindings;
 mod commands;
+mod contents;
 mod cursor_laws;
 mod data_in_code;
 mod entitlement_items;

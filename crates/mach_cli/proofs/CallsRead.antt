@@ -45,7 +45,8 @@ takes-one valued.Limit word old x y a b = a.2 ∙ ap (λ (n : ℕ). record old {
 takes-one valued.Arch word old x y a b = a.2 ∙ ap (λ (row : ArchRow). record old { cpu = of_arch row }) (some-one a.0 b.0 (sym a.1 ∙ b.1)) ∙ sym b.2
 takes-one valued.Cputype word old x y a b =
     a.2 ∙ ap (λ (n : ℕ). record old { cpu = of_number n }) (number-one word a.0 b.0 a.1 b.1) ∙ sym b.2
-takes-one valued.Address word old x y a b = a.2 ∙ ap (λ (n : ℕ). record old { address = Some n }) (some-one a.0 b.0 (sym a.1 ∙ b.1)) ∙ sym b.2
+takes-one valued.Address word old x y a b = some-one x y (sym a ∙ b)
+takes-one valued.LoadAddress word old x y a b = a.2 ∙ ap (λ (n : ℕ). record old { load_address = Some n }) (some-one a.0 b.0 (sym a.1 ∙ b.1)) ∙ sym b.2
 takes-one valued.Color word old x y a b = a.2 ∙ ap (λ (color : Color). record old { color = color }) (some-one a.0 b.0 (sym a.1 ∙ b.1)) ∙ sym b.2
 takes-one valued.Names word old x y a b = a ∙ sym b
 
@@ -85,6 +86,7 @@ abbrev IsOther : Kind → Type 0
 IsOther kinds.Plain = ⊥
 IsOther (kinds.Asks asked) = ⊥
 IsOther kinds.Nul = ⊥
+IsOther kinds.Lossy = ⊥
 IsOther (kinds.Form format) = ⊥
 IsOther (kinds.Valued option) = ⊥
 IsOther kinds.Other = ⊤
@@ -98,6 +100,9 @@ other-asks asked same = subst IsOther same cc
 
 other-nul : kinds.Other ≡ kinds.Nul → ⊥
 other-nul same = subst IsOther same cc
+
+other-lossy : kinds.Other ≡ kinds.Lossy → ⊥
+other-lossy same = subst IsOther same cc
 
 other-form : (format : Format) → kinds.Other ≡ kinds.Form format → ⊥
 other-form format same = subst IsOther same cc
@@ -165,6 +170,11 @@ module _ {O : Type 0} (taken : O → List ℕ → O × Bool) (options : Options)
       → Same (GoesOn taken options None is_plain old (word ∷ words)) (GoesOn taken options None is_plain (record old { ends_with_nul = true }) words)
   nul_step true kind = absurd (other-nul kind)
   nul_step false kind = rw kind (λ new a. a, λ new a. a)
+
+  pub lossy_step : (is_plain : Bool) → kind_at is_plain options (word_text word) ≡ kinds.Lossy
+      → Same (GoesOn taken options None is_plain old (word ∷ words)) (GoesOn taken options None is_plain (record old { is_lossy = true }) words)
+  lossy_step true kind = absurd (other-lossy kind)
+  lossy_step false kind = rw kind (λ new a. a, λ new a. a)
 
   pub form_step : (format : Format) (is_plain : Bool) → kind_at is_plain options (word_text word) ≡ kinds.Form format
       → Same (GoesOn taken options None is_plain old (word ∷ words)) (GoesOn taken options None is_plain (record old { format = format }) words)

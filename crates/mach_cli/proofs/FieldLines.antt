@@ -6,10 +6,12 @@ use Rattle.std.specs.Prelude.{codes}
 use Rattle.std.proofs.Math.Utf8.{encode}
 use Rattle.mach_parts.specs.PointerSigning.{Auth}
 use Rattle.mach_cli.proofs.OneLine.{line-end, no_feed-append, no_feed-decimal, no_feed-escaped, no_feed-flat_map, no_feed-if, no_feed-padded}
-use Rattle.mach_cli.proofs.OneLine.{no_feed-printed, no_feed-repeat, no_feed-signed_decimal, no_feed-space, no_feeds, printed-digits}
+use Rattle.mach_cli.proofs.OneLine.{no_feed-bytes, no_feed-escaped_bytes, no_feed-printed, no_feed-repeat, no_feed-signed_decimal, no_feed-space}
+use Rattle.mach_cli.proofs.OneLine.{no_feeds, printed-digits}
 use Rattle.mach_cli.specs.Escapes.{escaped_text, has_no_feed, IsOneLine}
 use Rattle.mach_cli.specs.Fields.{FieldView, ValueView, number, signed, hex, named, text, optional_text, version, source_version, uuid, flag, flags, auth_text}
 use Rattle.mach_cli.specs.Fields.{column_text, column_field, flags_text, fields_line, fields_pairs, pair_field, spaces, value_in_line, value_in_width, word_if}
+use Rattle.mach_cli.specs.Fields.{held_bytes, held_digits}
 use Rattle.mach_records.specs.Values.{source_version_text, upper_byte, upper_bytes, uuid_text, version_text}
 
 no_feed-auth : (a : Auth) → has_no_feed (auth_text a) ≡ true
@@ -53,6 +55,8 @@ no_feed-value (optional_text (Some t)) = no_feed-escaped t
 no_feed-value (version n) = no_feed-version n
 no_feed-value (source_version n) = no_feed-source_version n
 no_feed-value (uuid u) = no_feed-uuid u
+no_feed-value (held_bytes bytes) = no_feed-escaped_bytes bytes
+no_feed-value (held_digits bytes) = no_feed-bytes bytes
 no_feed-value (flag is_so word other) = no_feed-escaped (word_if is_so word other)
 no_feed-value (flags is_weak is_lazy auth) = no_feed-flags is_weak is_lazy auth
 
@@ -71,6 +75,8 @@ no_feed-wide width (optional_text t) = no_feed-value (optional_text t)
 no_feed-wide width (version n) = no_feed-version n
 no_feed-wide width (source_version n) = no_feed-source_version n
 no_feed-wide width (uuid u) = no_feed-uuid u
+no_feed-wide width (held_bytes bytes) = no_feed-escaped_bytes bytes
+no_feed-wide width (held_digits bytes) = no_feed-bytes bytes
 no_feed-wide width (flag is_so word other) = no_feed-escaped (word_if is_so word other)
 no_feed-wide width (flags is_weak is_lazy auth) = no_feed-flags is_weak is_lazy auth
 

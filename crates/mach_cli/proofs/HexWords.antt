@@ -5,7 +5,7 @@ use Rattle.std.proofs.lemmas.Bool.{lt-ltb, ltb-true, le-leb, leb-true}
 use Rattle.std.proofs.lemmas.Int.Digits.{digits_value-lt}
 use Rattle.std.specs.Char.{digit_value}
 use Rattle.std.specs.List.{list_all, slice_index}
-use Rattle.std.specs.Prelude.{◌==◌, ◌&&◌, ◌<◌, Bool, cond, nat_le, nat_lt, if◌then◌else◌}
+use Rattle.std.specs.Prelude.{◌==◌, ◌&&◌, ◌<◌, Bool, cond, nat_le, nat_lt}
 use Rattle.std.specs.Option.{IfNone}
 use Rattle.std.specs.Result.{OkIff, result_ok}
 use Rattle.std.specs.Str.Parse.{AllDigits, IsNumeral, ParsesUnsigned, digits_value, without_leading_plus}

@@ -24,3 +24,5 @@ mod ShortNames
 mod Padding
 mod Columns
 mod Painting
+mod AddressRows
+mod AddressesRead

@@ -20,11 +20,12 @@ use Rattle.mach_parts.specs.ArchForms.{arch_form_32}
 use Rattle.mach_parts.specs.declared.fat.FatArch.{FatArch}
 use Rattle.goblin_mach.specs.File.{HasFatMagic, IsMach}
 use Rattle.goblin_mach.specs.declared.mach.Mach.TheVariants as files
-use Rattle.goblin_mach.specs.Image.{ImageFault}
+use Rattle.goblin_mach.specs.Image.{ImageFault, LossyFault}
 use Rattle.goblin_mach.specs.Inputs.{IsInput, begins_any_archive}
 use Rattle.goblin_mach.specs.Items.{ContentView, ItemView, archive_member, content_bytes, no_member, whole_file}
-use Rattle.goblin_mach.specs.OpenImage.{IsImage, commands_view}
+use Rattle.goblin_mach.specs.OpenImage.{IsImage, IsLossyImage, commands_view}
 use Rattle.goblin_mach.specs.declared.fat_file.table.FatTable.{FatTable}
+use Rattle.goblin_mach.specs.View.{IsReported, ReportsFault}
 use Rattle.goblin_mach.specs.declared.input.Input.TheVariants.{Fat}
 use Rattle.goblin_mach.specs.declared.macho.MachO.{MachO}
 use Rattle.mach_cli.specs.Cpus.{is_of_cpu, IsTaken}
@@ -45,12 +46,12 @@ three a b c d xs ys zs first second third = Appends-both a b d xs (ys ++ zs) fir
 -- ---- what a file is
 
 -- an image is selected, or not, by its header
-pub taken_of : {A : Type 0} (cpu : Cpu) (bytes : List ℕ) (m : MachO A) (taken : Bool) → IsImage bytes 0 m
+pub taken_of : {A : Type 0} (cpu : Cpu) (bytes : List ℕ) (m : MachO A) (taken : Bool) → IsLossyImage bytes 0 m
     → is_of_cpu cpu m.header.cputype m.header.cpusubtype ≡ taken → IsTaken cpu bytes taken
 taken_of cpu bytes m taken opened is = record {
   ctx = opened.ctx;
   cs = commands_view m;
-  opens = opened.opens.lossy;
+  opens = opened.opens;
   holds = (m.header, opened.fields.header, is);
 }
 
@@ -113,17 +114,35 @@ memory_words_of (whole_file bytes) = refl
 memory_words_of (archive_member m) = refl
 memory_words_of no_member = refl
 
+-- a reported error is that of a fault
+pub fault_met : (P : Fault → Type 0) (e : Error) → IsReported e → ErrorMeets P e → (f : Fault) × P f
+fault_met P (errors.Malformed msg) reported holds = (_, holds)
+fault_met P (errors.BadMagic magic) reported holds = (_, holds)
+fault_met P (errors.Scroll e) reported holds = (_, holds)
+fault_met P (errors.BufferTooShort count what) reported holds = (_, holds)
+fault_met P (errors.Memory e) reported holds = absurd reported
+
 -- an item that isn't shown, by the words of its refusal
 pub refused_item : (w : Way) (left : ℕ) (label : LabelView) (content : Result ContentView Fault) (e : Error) (words : List ℕ)
-    → ErrorMeets (FaultOfItem content) e → words ≡ item_words content e → ShowsItem w left label None content (not_shown w label words left)
-refused_item w left label content e words occurs is =
-    subst (λ (ws : List ℕ). ShowsItem w left label None content (not_shown w label ws left)) (sym is) (no_image content e occurs)
+    → ErrorMeets (FaultOfItem ImageFault content) e → (w.is_lossy ≡ true → IsReported e → (f : Fault) × FaultOfItem LossyFault content f)
+    → words ≡ item_words content e → ShowsItem w left label None content (not_shown w label words left)
+refused_item w left label content e words occurs more is =
+    subst (λ (ws : List ℕ). ShowsItem w left label None content (not_shown w label ws left)) (sym is) (no_image content e occurs more)
 
 -- a fault of opening is one of the item
-pub item_fault : (content : ContentView) → IsMemberOrFile content → (f : Fault) → ImageFault (content_bytes content) 0 f → FaultOfItem (Ok content) f
-item_fault (whole_file bytes) may f fault = fault
-item_fault (archive_member m) may f fault = fault
-item_fault no_member may f fault = absurd may
+pub item_fault : (InMode : List ℕ → ℕ → Fault → Type 0) (content : ContentView) → IsMemberOrFile content → (f : Fault)
+    → InMode (content_bytes content) 0 f → FaultOfItem InMode (Ok content) f
+item_fault InMode (whole_file bytes) may f fault = fault
+item_fault InMode (archive_member m) may f fault = fault
+item_fault InMode no_member may f fault = absurd may
+
+-- an error that reports a fault that holds
+pub reports_of : (P : Fault → Type 0) (e : Error) → IsReported e → ErrorMeets P e → ReportsFault P e
+reports_of P (errors.Malformed msg) reported holds = holds
+reports_of P (errors.BadMagic magic) reported holds = holds
+reports_of P (errors.Scroll e) reported holds = holds
+reports_of P (errors.BufferTooShort count what) reported holds = holds
+reports_of P (errors.Memory e) reported holds = absurd reported
 
 and_three : (a b c : Bool) → a && (b && c) ≡ (a && b) && c
 and_three true b c = refl

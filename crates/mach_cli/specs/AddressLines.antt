@@ -1,5 +1,5 @@
 -- What an image has at an address, as a line.
-use Rattle.std.specs.Prelude.{◌≡◌, ℕ, List, [], ◌++◌, codes, Bool, Option, Some, None, is_some}
+use Rattle.std.specs.Prelude.{◌≡◌, ℕ, List, [], ◌++◌, codes, Bool, true, Option, Some, None}
 use Rattle.std.specs.Borrow.{Bor}
 use Rattle.mach_base.specs.Text.{text_at}
 use Rattle.mach_records.specs.declared.segments.Section64.{Section64}
@@ -7,7 +7,7 @@ use Rattle.mach_parts.specs.declared.segment.numbered.NumberedSection.{NumberedS
 use Rattle.goblin_mach.specs.declared.macho.nearest.Function.{Function}
 use Rattle.goblin_mach.specs.declared.macho.nearest.SymbolAt.{SymbolAt}
 use Rattle.mach_cli.specs.Listings.{hex_text}
-use Rattle.goblin_mach.specs.AddressFound.{IsFoundAt}
+use Rattle.mach_cli.specs.AddressRows.{AreAddressRows}
 use Rattle.mach_cli.specs.NamesShown.{file_if, file_text, name_or_mark, name_shown}
 use Rattle.goblin_mach.specs.declared.addresses.FoundAt.{FoundAt}
 
@@ -38,14 +38,15 @@ held_text is_raw x = held_by_text is_raw x.section x.symbol x.function
 abbrev pub at_text : (is_raw : Bool) → Option (Bor (List ℕ)) → (address : ℕ) → FoundAt → List ℕ
 at_text is_raw file address found = file_text is_raw file ++ (hex_text address ++ (codes "  " ++ held_text is_raw found))
 
--- The text is one line: what the image at the start of the bytes has at the address. It is whole if a section of the image holds
--- the address. It doesn't count against the limit.
-pub record AreAddressLines (address : ℕ) (has_file is_raw : Bool) (file : List ℕ) (limit left : ℕ) (bytes : List ℕ) (text : List ℕ)
-    (whole : Bool) (rest : ℕ) : Type 0 where
+-- the line of an address, after the name of the file if that is selected
+abbrev pub at_line : (is_raw : Bool) → Option (Bor (List ℕ)) → (is_first : Bool) → (address : ℕ) → FoundAt → List ℕ
+at_line is_raw file is_first address found = at_text is_raw file address found ++ codes "\n"
+
+-- The text is the lines of what the image at the start of the bytes has at these addresses, where it is loaded. They don't count against
+-- the limit.
+pub record AreAddressLines (load_address : Option ℕ) (addresses : List ℕ) (has_file is_raw : Bool) (file : List ℕ) (limit left : ℕ)
+    (bytes : List ℕ) (text : List ℕ) (whole : Bool) (rest : ℕ) : Type 0 where
   pub name : Bor (List ℕ)
   pub is_name : name.now ≡ file
-  pub found : FoundAt
-  pub is_found : IsFoundAt bytes address found
-  pub is_text : text ≡ at_text is_raw (file_if has_file name) address found ++ codes "\n"
-  pub is_whole : whole ≡ is_some found.section
+  pub rows : AreAddressRows (at_line is_raw (file_if has_file name)) load_address bytes true addresses text whole
   pub is_rest : rest ≡ left

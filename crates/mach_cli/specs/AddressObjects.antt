@@ -1,10 +1,11 @@
 -- What an image has at an address, as the members of its object.
-use Rattle.std.specs.Prelude.{◌≡◌, ℕ, List, ◌++◌, codes, Bool, Option, Some, None, is_some, option_map}
+use Rattle.std.specs.Prelude.{◌≡◌, ℕ, List, ◌++◌, codes, Bool, true, Option, Some, None, option_map}
 use Rattle.std.specs.Fmt.{decimal}
 use Rattle.mach_parts.specs.declared.segment.numbered.NumberedSection.{NumberedSection}
 use Rattle.goblin_mach.specs.declared.macho.nearest.Function.{Function}
 use Rattle.mach_cli.specs.JsonText.{name_in_field, string_or_null}
-use Rattle.goblin_mach.specs.AddressFound.{IsFoundAt}
+use Rattle.mach_cli.specs.AddressRows.{AreAddressRows}
+use Rattle.mach_cli.specs.JsonArrays.{comma_before}
 use Rattle.goblin_mach.specs.declared.addresses.FoundAt.{FoundAt}
 
 -- a number; null if there is none
@@ -25,10 +26,10 @@ holder_members (Some h) =
     ++ (string_or_null (name_in_field h.section.sectname)
     ++ (codes ",\"segment\":" ++ string_or_null (name_in_field h.section.segname)))
 
--- the object of an address, with its name as a member
-abbrev pub at_member : (address : ℕ) → FoundAt → List ℕ
-at_member address x =
-    codes "\"at\":{\"address\":"
+-- the object of an address
+abbrev pub at_object : (address : ℕ) → FoundAt → List ℕ
+at_object address x =
+    codes "{\"address\":"
     ++ (decimal address
     ++ (codes ",\"distance\":"
     ++ (number_or_null (option_map (λ s. s.distance) x.symbol)
@@ -38,11 +39,15 @@ at_member address x =
     ++ (holder_members x.section
     ++ (codes ",\"symbol\":" ++ (string_or_null (option_map (λ s. s.name.now) x.symbol) ++ codes "}")))))))))
 
--- The text is the members of the image at the start of the bytes: the object of what it has at the address, and its kind. It is
--- whole if a section of the image holds the address. It doesn't count against the limit.
-pub record AreAddressMembers (address : ℕ) (file : List ℕ) (limit left : ℕ) (bytes : List ℕ) (text : List ℕ) (whole : Bool) (rest : ℕ) : Type 0 where
-  pub found : FoundAt
-  pub is_found : IsFoundAt bytes address found
-  pub is_text : text ≡ at_member address found ++ codes ",\"kind\":\"image\""
-  pub is_whole : whole ≡ is_some found.section
+-- the same as an element of an array
+abbrev pub at_element : (is_first : Bool) → (address : ℕ) → FoundAt → List ℕ
+at_element is_first address found = comma_before is_first ++ at_object address found
+
+-- The text is the members of the image at the start of the bytes: an array of what it has at these addresses, where it is loaded, and
+-- its kind. The addresses don't count against the limit.
+pub record AreAddressMembers (load_address : Option ℕ) (addresses : List ℕ) (file : List ℕ) (limit left : ℕ) (bytes : List ℕ) (text : List ℕ)
+    (whole : Bool) (rest : ℕ) : Type 0 where
+  pub elements : List ℕ
+  pub rows : AreAddressRows at_element load_address bytes true addresses elements whole
+  pub is_text : text ≡ codes "\"at\":[" ++ (elements ++ codes "],\"kind\":\"image\"")
   pub is_rest : rest ≡ left

@@ -1,6 +1,6 @@
 -- What the arguments of a call request.
-use Rattle.std.specs.Prelude.{◌≡◌, ◌==◌, ◌||◌, ◌&&◌, ◌<◌, ◌≤◌, ◌^◌, ℕ, List, [], ◌∷◌, ◌++◌, codes, map, length, Bool, true, false, bytes_eq}
-use Rattle.std.specs.Prelude.{⊤, take, drop, if◌then◌else◌, Option, Some, None, get_or, nat_le, nat_lt, string_bytes}
+use Rattle.std.specs.Prelude.{◌≡◌, ◌==◌, ◌||◌, ◌&&◌, ◌<◌, ◌^◌, ℕ, List, [], ◌∷◌, ◌++◌, codes, map, length, Bool, true, false, bytes_eq}
+use Rattle.std.specs.Prelude.{⊤, take, drop, if◌then◌else◌, not, Option, Some, None, get_or, nat_le, nat_lt, option_map, string_bytes, unwrap_or}
 use Rattle.std.specs.Char.{digit_value}
 use Rattle.std.specs.List.{list_all}
 use Rattle.std.specs.Borrow.{Bor}
@@ -20,6 +20,7 @@ use Rattle.mach_cli.specs.declared.call.Untaken.{Untaken}
 use Rattle.mach_cli.specs.declared.call.Untaken.TheVariants as untaken
 use Rattle.mach_cli.specs.declared.call.Valued.{Valued}
 use Rattle.mach_cli.specs.declared.call.Valued.TheVariants as valued
+use Rattle.mach_cli.specs.declared.misuse.Misuse.{Misuse}
 use Rattle.mach_cli.specs.declared.misuse.Misuse.TheVariants as misuses
 use Rattle.mach_cli.specs.declared.color.Color.{Color}
 use Rattle.mach_cli.specs.declared.color.Color.TheVariants as colors
@@ -52,13 +53,16 @@ abbrev pub is_json : Format → Bool
 is_json formats.Json = true
 is_json other = false
 
--- what arguments request: the number after `--limit`, the selected cpu, the address after `--at`, the form of the output, when it is
--- coloured, the program's own options, the other arguments, the lists after `--names`, whether names in these end with NUL, and the
--- arguments that aren't text
+-- what arguments request: the number after `--limit`, the selected cpu, the addresses after `--at`, whether standard input has more, the
+-- address after `--load-address`, the form of the output, when it is coloured, the program's own options, the other arguments, the lists
+-- after `--names`, whether names in these end with NUL, and the arguments that aren't text; and whether `--lossy` is given
 pub record ParsedCall (O : Type 0) : Type 0 where
   pub limit : Option ℕ
   pub cpu : CpuSaid
-  pub address : Option ℕ
+  pub addresses : List ℕ
+  pub reads_addresses : Bool
+  pub load_address : Option ℕ
+  pub is_lossy : Bool
   pub format : Format
   pub color : Color
   pub own : O
@@ -74,7 +78,10 @@ abbrev pub call_view : {A O : Type 0} → Call A O → ParsedCall O
 call_view c = record {
   limit = c.limit;
   cpu = cpu_said c.cpu;
-  address = c.address;
+  addresses = c.addresses.items;
+  reads_addresses = c.reads_addresses;
+  load_address = c.load_address;
+  is_lossy = c.is_lossy;
   format = c.format;
   color = c.color;
   own = c.own;
@@ -83,6 +90,10 @@ call_view c = record {
   ends_with_nul = c.others.ends_with_nul;
   no_texts = map byte_word_of c.others.no_texts.items;
 }
+
+-- whether a call has `--at`
+abbrev pub has_at : {A O : Type 0} → Call A O → Bool
+has_at c = c.reads_addresses || not (length c.addresses.items == 0)
 
 -- what arguments request: one of the texts that a program has about itself, or a call
 pub data Wanted (O : Type 0) : Type 0 where
@@ -94,7 +105,10 @@ abbrev pub empty_call : {O : Type 0} → O → ParsedCall O
 empty_call own = record {
   limit = None;
   cpu = any_cpu;
-  address = None;
+  addresses = [];
+  reads_addresses = false;
+  load_address = None;
+  is_lossy = false;
   format = formats.Text;
   color = colors.Auto;
   own = own;
@@ -126,22 +140,29 @@ hex_value most (Some digits) = if are_hex_digits most digits then Some (digits_v
 abbrev pub hex_word : (most : ℕ) → List ℕ → Option ℕ
 hex_word most word = hex_value most (value_after true (codes "0x") word)
 
--- the address that an argument gives: `0x`, and 1 to 16 hexadecimal digits
+-- the address that an argument gives: 1 to 16 hexadecimal digits, perhaps after `0x`
 abbrev pub word_address : List ℕ → Option ℕ
-word_address word = hex_word 16 word
+word_address word = hex_value 16 (Some (unwrap_or (value_after true (codes "0x") word) word))
 
 -- The argument is the number of a cpu: `0x`, and 1 to 8 hexadecimal digits.
 abbrev pub IsCputype : List ℕ → ℕ → Type 0
 IsCputype word number = hex_word 8 word ≡ Some number
 
--- What an option and its value add to a call: the number of lines, the cpu of a name or a number, an address, when output is
--- coloured, or one more list.
+-- the call with one more address after `--at`, or with those of standard input for `-`
+abbrev pub with_address : {O : Type 0} → ParsedCall O → List ℕ → Option (ParsedCall O)
+with_address old word =
+    if bytes_eq word (codes "-") then Some (record old { reads_addresses = true })
+    else option_map (λ number. record old { addresses = old.addresses ++ number ∷ [] }) (word_address word)
+
+-- What an option and its value add to a call: the number of lines, the cpu of a name or a number, addresses, the address at which an
+-- image is loaded, when output is coloured, or one more list.
 abbrev pub TakesValue : {O : Type 0} → Valued → List ℕ → (old new : ParsedCall O) → Type 0
 TakesValue valued.Limit word old new = (number : ℕ) × IsLimit word number × (new ≡ record old { limit = Some number })
 TakesValue valued.Arch word old new =
     (row : ArchRow) × (arch_named arch_rows word ≡ Some row) × (new ≡ record old { cpu = of_arch row })
 TakesValue valued.Cputype word old new = (number : ℕ) × IsCputype word number × (new ≡ record old { cpu = of_number number })
-TakesValue valued.Address word old new = (number : ℕ) × (word_address word ≡ Some number) × (new ≡ record old { address = Some number })
+TakesValue valued.Address word old new = with_address old word ≡ Some new
+TakesValue valued.LoadAddress word old new = (number : ℕ) × (word_address word ≡ Some number) × (new ≡ record old { load_address = Some number })
 TakesValue valued.Color word old new = (color : Color) × (color_named word ≡ Some color) × (new ≡ record old { color = color })
 TakesValue valued.Names word old new = new ≡ record old { lists = old.lists ++ word ∷ [] }
 
@@ -153,12 +174,14 @@ word_kind options word =
     else if bytes_eq word (codes "--help") then kinds.Asks texts_asked.Help
     else if bytes_eq word (codes "--version") then kinds.Asks texts_asked.Version
     else if bytes_eq word (codes "-0") && options.has_files then kinds.Nul
+    else if bytes_eq word (codes "--lossy") && options.has_lossy then kinds.Lossy
     else if bytes_eq word (codes "--json") && options.has_json then kinds.Form formats.Json
     else if bytes_eq word (codes "--quiet") && options.has_quiet then kinds.Form formats.Quiet
     else if bytes_eq word (codes "--limit") && options.has_limit then kinds.Valued valued.Limit
     else if bytes_eq word (codes "--arch") && options.has_arch then kinds.Valued valued.Arch
     else if bytes_eq word (codes "--cputype") && options.has_cputype then kinds.Valued valued.Cputype
     else if bytes_eq word (codes "--at") && options.has_address then kinds.Valued valued.Address
+    else if bytes_eq word (codes "--load-address") && options.has_load_address then kinds.Valued valued.LoadAddress
     else if bytes_eq word (codes "--color") then kinds.Valued valued.Color
     else if bytes_eq word (codes "--names") && options.has_files then kinds.Valued valued.Names
     else if bytes_eq word (codes "-") then kinds.Other
@@ -170,6 +193,7 @@ abbrev pub is_shared_kind : Kind → Bool
 is_shared_kind kinds.Plain = true
 is_shared_kind (kinds.Asks asked) = true
 is_shared_kind kinds.Nul = true
+is_shared_kind kinds.Lossy = true
 is_shared_kind (kinds.Form format) = true
 is_shared_kind (kinds.Valued option) = true
 is_shared_kind kinds.Other = false
@@ -215,8 +239,9 @@ joined_in options word =
     (joined_or valued.Arch (value_after options.has_arch (codes "--arch=") word)
     (joined_or valued.Cputype (value_after options.has_cputype (codes "--cputype=") word)
     (joined_or valued.Address (value_after options.has_address (codes "--at=") word)
+    (joined_or valued.LoadAddress (value_after options.has_load_address (codes "--load-address=") word)
     (joined_or valued.Color (value_after true (codes "--color=") word)
-    (joined_or valued.Names (value_after options.has_files (codes "--names=") word) None)))))
+    (joined_or valued.Names (value_after options.has_files (codes "--names=") word) None))))))
 
 abbrev pub joined_view : Valued × Bor (List ℕ) → Valued × List ℕ
 joined_view (option, value) = (option, value.now)
@@ -230,15 +255,16 @@ abbrev pub TakesDashed : {O : Type 0} → (taken : O → List ℕ → O × Bool)
 TakesDashed taken options word old new = TakesJoined taken word (joined_in options word) old new
 
 -- what holds for an argument, by its kind
-abbrev pub ByKind : Kind → (plain : Type 0) → (text : Asked → Type 0) → (nul : Type 0) → (form : Format → Type 0) → (value : Valued → Type 0)
+abbrev pub ByKind : Kind → (plain : Type 0) → (text : Asked → Type 0) → (nul lossy : Type 0) → (form : Format → Type 0) → (value : Valued → Type 0)
     → (other own : Type 0) → Type 0
-ByKind kinds.Plain plain text nul form value other own = plain
-ByKind (kinds.Asks asked) plain text nul form value other own = text asked
-ByKind kinds.Nul plain text nul form value other own = nul
-ByKind (kinds.Form format) plain text nul form value other own = form format
-ByKind (kinds.Valued option) plain text nul form value other own = value option
-ByKind kinds.Other plain text nul form value other own = other
-ByKind kinds.Own plain text nul form value other own = own
+ByKind kinds.Plain plain text nul lossy form value other own = plain
+ByKind (kinds.Asks asked) plain text nul lossy form value other own = text asked
+ByKind kinds.Nul plain text nul lossy form value other own = nul
+ByKind kinds.Lossy plain text nul lossy form value other own = lossy
+ByKind (kinds.Form format) plain text nul lossy form value other own = form format
+ByKind (kinds.Valued option) plain text nul lossy form value other own = value option
+ByKind kinds.Other plain text nul lossy form value other own = other
+ByKind kinds.Own plain text nul lossy form value other own = own
 
 -- What arguments request that follow those of the call `old`. The last argument before them may be an option that lacks its value. An
 -- option takes the argument after it, or has its value after `=`; all arguments after `--` are others, and so is each argument that is
@@ -253,6 +279,7 @@ Requests {O} taken options None old (word ∷ words) wanted =
     ByKind (word_kind options (word_text word)) (AddsWords options old words wanted)
     (λ asked. wanted ≡ a_text asked)
     (Requests taken options None (record old { ends_with_nul = true }) words wanted)
+    (Requests taken options None (record old { is_lossy = true }) words wanted)
     (λ format. Requests taken options None (record old { format = format }) words wanted)
     (λ option. Requests taken options (Some option) old words wanted)
     ((next : ParsedCall O) × AddsWord options word old next × Requests taken options None next words wanted)
@@ -272,17 +299,27 @@ IsRequest taken options old words (requests.Call call) = Requests taken options 
 IsRequest taken options old words (requests.Asks asked) = Requests taken options None old words (a_text asked)
 IsRequest {A} {O} taken options old words (requests.Nothing misuse) = (wanted : Wanted O) → Requests taken options None old words wanted → ⊥
 
+-- it is so of the misuse, if memory didn't run out
+abbrev pub IfMisuse : (Misuse → Type 0) → Untaken → Type 0
+IfMisuse P (untaken.Misuse misuse) = P misuse
+IfMisuse P untaken.Memory = ⊤
+
 -- The arguments are at fault: they make nothing that they should make.
 abbrev pub AreUntaken : {T : Type 0} → (T → Type 0) → Untaken → Type 0
 AreUntaken {T} Makes (untaken.Misuse misuse) = (made : T) → Makes made → ⊥
 AreUntaken Makes untaken.Memory = ⊤
 
--- why an option doesn't take a value: the value is none of its values, or memory runs out for a list
+abbrev pub address_untaken : Option ℕ → Bor (List ℕ) → Untaken
+address_untaken (Some number) word = untaken.Memory
+address_untaken None word = untaken.Misuse (misuses.NoAddress word)
+
+-- why an option doesn't take a value: the value is none of its values, or memory runs out for one more address or list
 abbrev pub untaken_by : Valued → Bor (List ℕ) → Untaken
 untaken_by valued.Limit word = untaken.Misuse (misuses.NoNumber word)
 untaken_by valued.Arch word = untaken.Misuse (misuses.NoCpu word)
 untaken_by valued.Cputype word = untaken.Misuse (misuses.NoCpu word)
-untaken_by valued.Address word = untaken.Misuse (misuses.NoAddress word)
+untaken_by valued.Address word = address_untaken (word_address word.now) word
+untaken_by valued.LoadAddress word = untaken.Misuse (misuses.NoAddress word)
 untaken_by valued.Color word = untaken.Misuse (misuses.NoColor word)
 untaken_by valued.Names word = untaken.Memory
 
@@ -292,5 +329,6 @@ what_is_missing valued.Limit = codes "number after --limit"
 what_is_missing valued.Arch = codes "NAME after --arch"
 what_is_missing valued.Cputype = codes "0xN after --cputype"
 what_is_missing valued.Address = codes "ADDRESS after --at"
+what_is_missing valued.LoadAddress = codes "ADDRESS after --load-address"
 what_is_missing valued.Color = codes "WHEN after --color"
 what_is_missing valued.Names = codes "FILE after --names"

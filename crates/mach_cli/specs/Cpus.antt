@@ -1,5 +1,5 @@
 -- The images that are selected by their cpu (`mach/machine.h`).
-use Rattle.std.specs.Prelude.{◌≡◌, ◌==◌, ◌&&◌, not, ℕ, List, [], ◌∷◌, ◌++◌, codes, Bool, true, false, Option, Some, None, bytes_eq, if◌then◌else◌}
+use Rattle.std.specs.Prelude.{◌≡◌, ◌==◌, ◌&&◌, not, ℕ, List, ◌++◌, codes, Bool, true, false, Option, Some, None}
 use Rattle.std.specs.Fmt.{digits}
 use Rattle.std.specs.List.{list_any}
 use Rattle.mach_records.specs.CpuNames.{arch_rows, cpu_named}

@@ -6,15 +6,16 @@ use Rattle.std.specs.List.{flat_map}
 use Rattle.std.specs.Str.{chars}
 use Rattle.mach_dyld.specs.Exports.{text_in}
 use Rattle.mach_parts.specs.PointerSigning.{Auth, auth_option_view}
-use Rattle.mach_cli.specs.Escapes.{escaped_text}
+use Rattle.mach_cli.specs.Escapes.{escaped_bytes, escaped_text}
 use Rattle.mach_cli.specs.JsonText.{json_bool, json_string}
 use Rattle.mach_cli.specs.Listings.{hex_text}
+use Rattle.mach_cli.specs.SignatureNames.{bytes_text}
 use Rattle.mach_records.specs.Values.{source_version_text, uuid_text, version_text}
 use Rattle.mach_cli.specs.declared.fields.Field.{Field}
 use Rattle.mach_cli.specs.declared.fields.Value.{Value}
 use Rattle.mach_cli.specs.declared.fields.Value.TheVariants as values
 
--- the value of a field: a number, in a line perhaps in hexadecimal or by its name; a text, which may lack; a version or a UUID;
+-- the value of a field: a number, in a line perhaps in hexadecimal or by its name; a text, which may lack; a version or a UUID; bytes;
 -- whether something is so, with the words for both; or the flags of a pointer
 pub data ValueView : Type 0 where
   number : ℕ → ValueView
@@ -26,6 +27,8 @@ pub data ValueView : Type 0 where
   version : ℕ → ValueView
   source_version : ℕ → ValueView
   uuid : List ℕ → ValueView
+  held_bytes : List ℕ → ValueView
+  held_digits : List ℕ → ValueView
   flag : (is_so : Bool) → (word otherwise : List ℕ) → ValueView
   flags : (is_weak is_lazy : Bool) → Option Auth → ValueView
 
@@ -47,6 +50,8 @@ value_view (values.OptionalText t) = optional_text (text_in t)
 value_view (values.Version n) = version n
 value_view (values.SourceVersion n) = source_version n
 value_view (values.Uuid bytes) = uuid bytes
+value_view (values.Bytes bytes) = held_bytes bytes.now
+value_view (values.Digits bytes) = held_digits bytes.now
 value_view (values.Flag is_so word otherwise) = flag is_so word.now otherwise.now
 value_view (values.Flags is_weak is_lazy auth) = flags is_weak is_lazy (auth_option_view auth)
 
@@ -126,6 +131,8 @@ value_in_line (optional_text (Some t)) = escaped_text t
 value_in_line (version n) = version_text n
 value_in_line (source_version n) = source_version_text n
 value_in_line (uuid u) = uuid_text u
+value_in_line (held_bytes bytes) = escaped_bytes bytes
+value_in_line (held_digits bytes) = bytes_text bytes
 value_in_line (flag is_so word otherwise) = escaped_text (word_if is_so word otherwise)
 value_in_line (flags is_weak is_lazy auth) = flags_text is_weak is_lazy auth
 
@@ -177,6 +184,8 @@ value_in_object (optional_text (Some t)) = json_string t
 value_in_object (version n) = codes "\"" ++ (version_text n ++ codes "\"")
 value_in_object (source_version n) = codes "\"" ++ (source_version_text n ++ codes "\"")
 value_in_object (uuid u) = codes "\"" ++ (uuid_text u ++ codes "\"")
+value_in_object (held_bytes bytes) = codes "\"" ++ (bytes_text bytes ++ codes "\"")
+value_in_object (held_digits bytes) = codes "\"" ++ (bytes_text bytes ++ codes "\"")
 value_in_object (flag is_so word otherwise) = json_bool is_so
 value_in_object (flags is_weak is_lazy auth) = codes "null"
 

@@ -47,4 +47,6 @@ pub mod Painted
 pub mod NamesShown
 pub mod AddressLines
 pub mod AddressObjects
+pub mod AddressRows
+pub mod AddressesRead
 pub mod Outputs

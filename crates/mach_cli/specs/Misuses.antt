@@ -1,12 +1,13 @@
 -- The texts of what is wrong with the arguments of a call.
 use Rattle.std.specs.Prelude.{◌≡◌, ◌≤◌, ◌+◌, ◌/◌, ℕ, List, Option, Some, None, ◌++◌, codes, length, min, IfSome}
+use Rattle.std.specs.Fmt.{decimal}
 use Rattle.std.specs.Str.{chars}
 use Rattle.strsim.specs.Edits.{osa_table}
 use Rattle.mach_cli.specs.CallWords.{no_text_words}
-use Rattle.mach_cli.specs.Escapes.{escaped_text}
+use Rattle.mach_cli.specs.Escapes.{escaped_bytes, escaped_text}
 use Rattle.mach_cli.specs.declared.flag.Nearest.{Nearest}
 use Rattle.mach_cli.specs.declared.misuse.Misuse.{Misuse}
-use Rattle.mach_cli.specs.declared.misuse.Misuse.TheVariants.{UnknownOption, UnknownWord, NoList, NoNumber, NoCpu, NoAddress}
+use Rattle.mach_cli.specs.declared.misuse.Misuse.TheVariants.{UnknownOption, UnknownWord, NoList, NoNumber, NoCpu, NoAddress, NoAddressLine, InputTwice}
 use Rattle.mach_cli.specs.declared.misuse.Misuse.TheVariants.{NoColor, Missing, NoText}
 
 abbrev pub misuse_words : Misuse → List ℕ
@@ -16,6 +17,9 @@ misuse_words (NoList word instead) = codes "no list '" ++ (escaped_text word.now
 misuse_words (NoNumber word) = codes "'" ++ (escaped_text word.now ++ codes "' is not a number")
 misuse_words (NoCpu word) = codes "'" ++ (escaped_text word.now ++ codes "' is not a cpu")
 misuse_words (NoAddress word) = codes "'" ++ (escaped_text word.now ++ codes "' is not an address")
+misuse_words (NoAddressLine line) =
+    line.what.now ++ (codes " " ++ (decimal line.number ++ (codes ", '" ++ (escaped_bytes line.bytes.now ++ codes "', is not an address"))))
+misuse_words InputTwice = codes "standard input can't be read twice"
 misuse_words (NoColor word) = codes "'" ++ (escaped_text word.now ++ codes "' is not auto, always or never")
 misuse_words (Missing what) = codes "no " ++ (what.now ++ codes " is given")
 misuse_words (NoText word) = no_text_words word.what.now word.number word.bytes.now
@@ -28,6 +32,8 @@ unknown_in (NoList word instead) = None
 unknown_in (NoNumber word) = None
 unknown_in (NoCpu word) = None
 unknown_in (NoAddress word) = None
+unknown_in (NoAddressLine line) = None
+unknown_in InputTwice = None
 unknown_in (NoColor word) = None
 unknown_in (Missing what) = None
 unknown_in (NoText word) = None

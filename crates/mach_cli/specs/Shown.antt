@@ -9,16 +9,16 @@ use Rattle.mach_parts.specs.ArchForms.{arch_form_32}
 use Rattle.mach_parts.specs.declared.fat.FatArch.{FatArch}
 use Rattle.goblin_mach.specs.FatFile.{FatFile, fat_file_in, arches_in}
 use Rattle.goblin_mach.specs.File.{HasFatMagic}
-use Rattle.goblin_mach.specs.Image.{ImageFault}
+use Rattle.goblin_mach.specs.Image.{ImageFault, LossyFault, LossyOpens, Opens}
 use Rattle.goblin_mach.specs.Items.{ContentView, ItemView, archive_member, content_bytes, items_in, no_member, whole_file}
-use Rattle.goblin_mach.specs.View.{ViewFault}
+use Rattle.goblin_mach.specs.View.{IsReported, ReportsFault, ViewFault}
 use Rattle.mach_cli.specs.Bounds.{most_images}
 use Rattle.mach_cli.specs.Cpus.{misses, IsTaken, no_entry_words, other_words}
 use Rattle.mach_cli.specs.declared.cpu.Cpu.{Cpu}
 use Rattle.mach_cli.specs.Foreigners.{refused_words}
 use Rattle.mach_cli.specs.Labels.{LabelView, label_of, unlabelled}
 use Rattle.mach_cli.specs.Names.{names_text}
-use Rattle.mach_cli.specs.Refusals.{complaint, item_words, label_complaint, limit_words}
+use Rattle.mach_cli.specs.Refusals.{complaint, content_words, item_words, label_complaint, limit_words, memory_words}
 use Rattle.mach_cli.specs.Selected.{omitted_of, parts_within}
 use Rattle.mach_cli.specs.PartsOf.{items_before}
 use Rattle.mach_cli.specs.Sinks.{SinkTexts}
@@ -58,19 +58,21 @@ both first second = record {
   left = second.left;
 }
 
--- How a file is shown: by the texts of a sink, with the names of the program and of the file, under the file's name, and with what a program
--- prints of an image.
+-- How a file is shown: by the texts of a sink, with the names of the program and of the file, under the file's name, with what a program
+-- prints of an image, and whether in lossy mode if strict mode refuses an image.
 pub record Way : Type 1 where
   pub texts : SinkTexts
   pub names : List ℕ
   pub file : List ℕ
+  pub is_lossy : Bool
   pub lines : ImageLines
 
-abbrev pub way_of : SinkTexts → (program file : List ℕ) → ImageLines → Way
-way_of texts program file lines = record { texts = texts; names = names_text program file; file = file; lines = lines }
+abbrev pub way_of : SinkTexts → (program file : List ℕ) → (is_lossy : Bool) → ImageLines → Way
+way_of texts program file is_lossy lines =
+    record { texts = texts; names = names_text program file; file = file; is_lossy = is_lossy; lines = lines }
 
 abbrev pub way_in : {V K : Type 0} → SinkTexts → (V → (file : List ℕ) → (limit : ℕ) → ImageLines) → Document V K → Way
-way_in texts lines d = way_of texts d.names.program.now d.names.file.now (lines d.view.now d.names.file.now d.limit)
+way_in texts lines d = way_of texts d.names.program.now d.names.file.now d.is_lossy (lines d.view.now d.names.file.now d.limit)
 
 -- Something is shown, with this outcome, and written on the two outputs.
 pub record Prints (Shows : Shown → Type 0) (outcome : Outcome) (out_old out_new err_old err_new : Option (List ℕ)) : Type 0 where
@@ -87,12 +89,12 @@ pub record IsFatTable (bytes : List ℕ) (file : FatFile) (archs : List FatArch)
   pub is_file : fat_file_in bytes ≡ Ok file
   pub table : arches_in file ≡ Ok archs
 
--- A fault of an item: it can't be read, or no image opens in it.
-abbrev pub FaultOfItem : Result ContentView Fault → Fault → Type 0
-FaultOfItem (Ok (whole_file bytes)) f = ImageFault bytes 0 f
-FaultOfItem (Ok (archive_member m)) f = ImageFault m.bytes 0 f
-FaultOfItem (Ok no_member) f = ⊥
-FaultOfItem (Err fault) f = fault ≡ f
+-- A fault of an item: it can't be read, or no image opens in it, by the faults of a mode: `ImageFault` or `LossyFault`.
+abbrev pub FaultOfItem : (InMode : List ℕ → ℕ → Fault → Type 0) → Result ContentView Fault → Fault → Type 0
+FaultOfItem InMode (Ok (whole_file bytes)) f = InMode bytes 0 f
+FaultOfItem InMode (Ok (archive_member m)) f = InMode m.bytes 0 f
+FaultOfItem InMode (Ok no_member) f = ⊥
+FaultOfItem InMode (Err fault) f = fault ≡ f
 
 -- an image may open in it
 abbrev pub IsMemberOrFile : ContentView → Type 0
@@ -105,12 +107,36 @@ abbrev pub not_shown : Way → LabelView → (words : List ℕ) → (left : ℕ)
 not_shown w label words left =
     record { text = w.texts.refused_image label words; message = label_complaint w.names label words; whole = false; left = left }
 
--- What is shown of an item that is begun under its label, and may be an entry that is out of the file: what the program prints of the image;
--- that it is an archive without members; or why it isn't shown, a fault that it has, that memory ran out, or that it is out of the file.
+-- How an image opens, and what is reported of it first: strictly, and nothing; or, if that is selected, in lossy mode, and the fault for which
+-- strict mode refuses it.
+pub data OpensAfter (is_lossy : Bool) (bytes : List ℕ) (IsFault : Fault → Type 0) (words : Error → List ℕ) : Option (List ℕ) → Type 0 where
+  opens_strictly : Opens bytes 0 → OpensAfter is_lossy bytes IsFault words None
+  opens_lossily : (e : Error) → is_lossy ≡ true → ReportsFault IsFault e → LossyOpens bytes 0 → OpensAfter is_lossy bytes IsFault words (Some (words e))
+
+-- What is shown of an image that opens: what the program prints of it, or that memory ran out.
+pub data ShowsImage (w : Way) (left : ℕ) (label : LabelView) (bytes : List ℕ) : Shown → Type 0 where
+  image_printed : (text : List ℕ) (whole : Bool) (rest : ℕ) → w.lines left bytes text whole rest
+      → ShowsImage w left label bytes (record { text = text ++ w.texts.image_end; message = []; whole = whole; left = rest })
+  no_memory : ShowsImage w left label bytes (not_shown w label memory_words left)
+
+-- what is shown after these words are reported, if there are some; then it isn't whole
+abbrev pub after_report : Way → LabelView → Option (List ℕ) → Shown → Shown
+after_report w label None shown = shown
+after_report w label (Some words) shown =
+    record { text = shown.text; message = label_complaint w.names label words ++ shown.message; whole = false; left = shown.left }
+
+abbrev pub ShowsAfter : (w : Way) → (left : ℕ) → (label : LabelView) → (bytes : List ℕ) → Option (List ℕ) → Shown → Type 0
+ShowsAfter w left label bytes words shown = (one : Shown) × ShowsImage w left label bytes one × (shown ≡ after_report w label words one)
+
+-- What is shown of an item that is begun under its label, and may be an entry that is out of the file: its image; that it is an archive without
+-- members; or why it isn't shown, a fault that it has, that memory ran out, or that it is out of the file. If lossy mode is selected, a fault of
+-- strict mode is reported, and lossy mode refuses it too.
 pub data ShowsItem (w : Way) (left : ℕ) (label : LabelView) : Option OutOfFile → Result ContentView Fault → Shown → Type 0 where
-  an_image : (content : ContentView) (text : List ℕ) (whole : Bool) (rest : ℕ) → w.lines left (content_bytes content) text whole rest
-      → ShowsItem w left label None (Ok content) (record { text = text ++ w.texts.image_end; message = []; whole = whole; left = rest })
-  no_image : (content : Result ContentView Fault) (e : Error) → ErrorMeets (FaultOfItem content) e
+  an_image : (content : ContentView) (words : Option (List ℕ)) (shown : Shown)
+      → OpensAfter w.is_lossy (content_bytes content) (FaultOfItem ImageFault (Ok content)) (content_words content) words
+      → ShowsAfter w left label (content_bytes content) words shown → ShowsItem w left label None (Ok content) shown
+  no_image : (content : Result ContentView Fault) (e : Error) → ErrorMeets (FaultOfItem ImageFault content) e
+      → (w.is_lossy ≡ true → IsReported e → (f : Fault) × FaultOfItem LossyFault content f)
       → ShowsItem w left label None content (not_shown w label (item_words content e) left)
   an_archive : ShowsItem w left label None (Ok no_member) (record { text = w.texts.archive; message = []; whole = true; left = left })
   no_part : (outside : OutOfFile) (content : Result ContentView Fault)
@@ -168,7 +194,8 @@ refused_for w words left = record { text = w.texts.refused_file w.file words; me
 -- these have no more bytes together than the file; or why it is refused, a fault that it has, or that memory ran out. The
 -- limit is that of the lines of all its images together, and of its images (`most_images`).
 pub data ShowsFile (w : Way) (cpu : Cpu) (limit : ℕ) (bytes : List ℕ) : Shown → Type 0 where
-  one_image : (shown : Shown) → IsTaken cpu bytes true → ShowsItem w limit unlabelled None (Ok (whole_file bytes)) shown
+  one_image : (words : Option (List ℕ)) (shown : Shown) → IsTaken cpu bytes true
+      → OpensAfter w.is_lossy bytes (ViewFault bytes) (refused_words bytes) words → ShowsAfter w limit unlabelled bytes words shown
       → ShowsFile w cpu limit bytes (whole_of w shown)
   other_image : IsTaken cpu bytes false → ShowsFile w cpu limit bytes (refused_for w (other_words cpu) limit)
   fat_file : (file : FatFile) (archs : List FatArch) (shown : Shown) → IsFatTable bytes file archs → misses cpu archs ≡ false
@@ -176,4 +203,5 @@ pub data ShowsFile (w : Way) (cpu : Cpu) (limit : ℕ) (bytes : List ℕ) : Show
       → ShowsFile w cpu limit bytes (fat_of w (omitted_of limit cpu (archs_items bytes archs) (archs_left_out bytes archs)) shown)
   no_entry : (file : FatFile) (archs : List FatArch) → IsFatTable bytes file archs → misses cpu archs ≡ true
       → ShowsFile w cpu limit bytes (refused_for w (no_entry_words cpu) limit)
-  refused_file : (e : Error) → ErrorMeets (ViewFault bytes) e → ShowsFile w cpu limit bytes (refused_for w (refused_words bytes e) limit)
+  refused_file : (e : Error) → ErrorMeets (ViewFault bytes) e → (w.is_lossy ≡ true → IsReported e → (f : Fault) × LossyFault bytes 0 f)
+      → ShowsFile w cpu limit bytes (refused_for w (refused_words bytes e) limit)

@@ -38,10 +38,11 @@ abbrev pub Showing : Type 0 → Type 1
 Showing W = (name bytes : List ℕ) → (old new : W) → (status : ℕ) → Type 0
 
 -- The images of a file are shown: its lines, by a view, are put together by a sink. All is written out.
-pub record ShowsImages {W B : Type 0} (k : SinkTexts) (program : List ℕ) (cpu : Cpu) (limit : ℕ) (lines : (file : List ℕ) → (limit : ℕ) → ImageLines)
-    (contents : W → Option (List ℕ)) (name bytes : List ℕ) (old new : BufWriter W B) (status : ℕ) : Type 0 where
+pub record ShowsImages {W B : Type 0} (k : SinkTexts) (program : List ℕ) (cpu : Cpu) (is_lossy : Bool) (limit : ℕ)
+    (lines : (file : List ℕ) → (limit : ℕ) → ImageLines) (contents : W → Option (List ℕ)) (name bytes : List ℕ) (old new : BufWriter W B)
+    (status : ℕ) : Type 0 where
   pub shown : Shown
-  pub is_shown : let most = most_items limit bytes in ShowsFile (way_of k program name (lines name most)) cpu most bytes shown
+  pub is_shown : let most = most_items limit bytes in ShowsFile (way_of k program name is_lossy (lines name most)) cpu most bytes shown
   pub is_status : status ≡ status_by shown.whole
   pub written : Appends (writer_contents contents old) (writer_contents contents new) shown.text
   pub flushed : writer_buffer new ≡ []
@@ -162,7 +163,7 @@ files_of s = record { program = s.program; cpu = s.cpu; has_titles = s.has_title
 abbrev pub ShowsBy : {T J W B A : Type 0} → SinkTexts → (is_nm : Bool) → ImageFiles T J → (program : List ℕ)
     → (lines : (file : List ℕ) → (limit : ℕ) → ImageLines) → (contents : W → Option (List ℕ)) → (files : List (Bor (List ℕ))) → Others A
     → (old new : BufWriter (Titled W) B) → (worst : ℕ) → Type 0
-ShowsBy k is_nm s program lines contents = ShowsFilesBy is_nm (files_of s) (ShowsImages k program s.cpu s.limit lines (titled_contents contents))
+ShowsBy k is_nm s program lines contents = ShowsFilesBy is_nm (files_of s) (ShowsImages k program s.cpu s.is_lossy s.limit lines (titled_contents contents))
 
 -- their lines as text
 abbrev pub ShowsText : {T J W B A : Type 0} → ImageFiles T J → (program : List ℕ) → (lines : (file : List ℕ) → (limit : ℕ) → ImageLines)

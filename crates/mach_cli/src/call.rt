@@ -2,7 +2,7 @@
 
 ghost use Rattle.std.specs.Prelude.{◌≡◌, None, option_map, IfErr, IfOk, OnOk};
 ghost use Rattle.mach_dyld.specs.Exports.{text_in};
-ghost use Rattle.mach_cli.specs.Calls.{call_view, empty_call, kind_at, word_kind, AddsWord, AreUntaken, IsRequest, Requests, TakesValue};
+ghost use Rattle.mach_cli.specs.Calls.{call_view, empty_call, has_at, kind_at, word_kind, AddsWord, AreUntaken, IsRequest, Requests, TakesValue};
 ghost use Rattle.mach_cli.specs.Calls.{joined_in, joined_view, is_shared, untaken_by, value_after, what_is_missing, TakesDashed, TakesOwn, TakesWord};
 ghost use Rattle.mach_cli.specs.CallWords.{word_text};
 
@@ -23,8 +23,14 @@ pub struct Call<'a, A: Allocator, O> {
     pub limit: Option<usize>,
     /// The cpu after `--arch` or `--cputype`; any, if neither is given.
     pub cpu: Cpu,
-    /// The address after `--at`, if it is given.
-    pub address: Option<u64>,
+    /// The addresses after `--at`, in order.
+    pub addresses: Vec<u64, A>,
+    /// Whether standard input has more: `--at -` is given.
+    pub reads_addresses: bool,
+    /// The address after `--load-address`, if it is given.
+    pub load_address: Option<u64>,
+    /// Whether `--lossy` is given.
+    pub is_lossy: bool,
     /// The form that the last of `--quiet` and `--json` selects; text, if neither is given.
     pub format: Format,
     /// When its output is coloured: the value of `--color`; `auto` if it isn't given.
@@ -66,6 +72,7 @@ enum Valued {
     Arch,
     Cputype,
     Address,
+    LoadAddress,
     Color,
     Names,
 }
@@ -79,6 +86,8 @@ enum Kind {
     Asks(Asked),
     // `-0`: names in lists end with NUL.
     Nul,
+    // `--lossy`: an image that strict mode refuses is opened in lossy mode.
+    Lossy,
     // An option that selects a form.
     Form(Format),
     // An option with a value.
@@ -91,7 +100,7 @@ enum Kind {
 
 // Why arguments request nothing, or aren't read.
 #[derive(Clone, Copy)]
-enum Untaken<'a> {
+pub(crate) enum Untaken<'a> {
     // One of them is wrong.
     Misuse(Misuse<'a>),
     // Memory ran out.
@@ -108,12 +117,14 @@ fn kind_of(word: &str, options: Options) -> Kind
         "--help" => Kind::Asks(Asked::Help),
         "--version" => Kind::Asks(Asked::Version),
         "-0" if options.has_files => Kind::Nul,
+        "--lossy" if options.has_lossy => Kind::Lossy,
         "--json" if options.has_json => Kind::Form(Format::Json),
         "--quiet" if options.has_quiet => Kind::Form(Format::Quiet),
         "--limit" if options.has_limit => Kind::Valued(Valued::Limit),
         "--arch" if options.has_arch => Kind::Valued(Valued::Arch),
         "--cputype" if options.has_cputype => Kind::Valued(Valued::Cputype),
         "--at" if options.has_address => Kind::Valued(Valued::Address),
+        "--load-address" if options.has_load_address => Kind::Valued(Valued::LoadAddress),
         "--color" => Kind::Valued(Valued::Color),
         "--names" if options.has_files => Kind::Valued(Valued::Names),
         "-" => Kind::Other,
@@ -150,6 +161,7 @@ impl Valued {
             Valued::Arch => "NAME after --arch",
             Valued::Cputype => "0xN after --cputype",
             Valued::Address => "ADDRESS after --at",
+            Valued::LoadAddress => "ADDRESS after --load-address",
             Valued::Color => "WHEN after --color",
             Valued::Names => "FILE after --names",
         }
@@ -179,11 +191,23 @@ fn joined<'a>(word: &'a str, options: Options) -> Option<(Valued, &'a str)>
     if let Some(value) = value_after(word, "--at=", options.has_address) {
         return Some((Valued::Address, value));
     }
+    if let Some(value) = value_after(word, "--load-address=", options.has_load_address) {
+        return Some((Valued::LoadAddress, value));
+    }
     if let Some(value) = value_after(word, "--color=", true) {
         return Some((Valued::Color, value));
     }
     let value = value_after(word, "--names=", options.has_files)?;
     Some((Valued::Names, value))
+}
+
+impl<A: Allocator, O> Call<'_, A, O> {
+    /// Whether it has `--at`.
+    pub fn has_at(&self) -> bool
+        ensures { result ≡ has_at self.now }
+    {
+        self.reads_addresses || !self.addresses.is_empty()
+    }
 }
 
 impl<'a, A: Allocator, O: OwnOptions> Call<'a, A, O> {
@@ -206,8 +230,17 @@ impl<'a, A: Allocator, O: OwnOptions> Call<'a, A, O> {
                 Some(number) => self.cpu = Cpu::Number(number),
                 None => return Err(Untaken::Misuse(Misuse::NoCpu(word))),
             },
+            Valued::Address if word == "-" => self.reads_addresses = true,
             Valued::Address => match address_in(word) {
-                Some(address) => self.address = Some(address),
+                Some(address) => {
+                    if self.addresses.push(address).is_err() {
+                        return Err(Untaken::Memory);
+                    }
+                }
+                None => return Err(Untaken::Misuse(Misuse::NoAddress(word))),
+            },
+            Valued::LoadAddress => match address_in(word) {
+                Some(address) => self.load_address = Some(address),
                 None => return Err(Untaken::Misuse(Misuse::NoAddress(word))),
             },
             Valued::Color => match Color::named(word) {
@@ -303,7 +336,10 @@ pub fn understand<'a, A: Allocator + Clone, O: OwnOptions>(
     let call = Call {
         limit: None,
         cpu: Cpu::Any,
-        address: None,
+        addresses: Vec::new(alloc.clone()?),
+        reads_addresses: false,
+        load_address: None,
+        is_lossy: false,
         format: Format::Text,
         color: Color::Auto,
         own,
@@ -344,6 +380,7 @@ fn read<'a, A: Allocator, O: OwnOptions>(
             Kind::Plain => is_plain = true,
             Kind::Asks(asked) => return Ok(Request::Asks(asked)),
             Kind::Nul => call.others.ends_with_nul = true,
+            Kind::Lossy => call.is_lossy = true,
             Kind::Form(format) => call.format = format,
             Kind::Valued(option) => before = Some(option),
             Kind::Other => {

@@ -1,20 +1,23 @@
 //! Shows a file: its one image, or the items of a fat file in order.
 
-ghost use Rattle.std.specs.Prelude.{◌≡◌, ◌≤◌, ℕ, List, [], Ok, None, true, IfOk, IfErr, OnOk};
+ghost use Rattle.std.specs.Prelude.{◌≡◌, ◌≤◌, ℕ, List, [], Ok, None, true, option_map, IfOk, IfErr, IfNone, IfSome, OnOk};
 ghost use Rattle.std.specs.Io.Buffered.{writer_buffer, writer_contents};
 ghost use Rattle.std.specs.Io.KnownBytes.{Appends};
 ghost use Rattle.mach_base.specs.Answer.{ErrorMeets};
+ghost use Rattle.mach_base.specs.Fault.{Fault};
 ghost use Rattle.goblin_mach.specs.FatFile.{FatFile};
-ghost use Rattle.goblin_mach.specs.Image.{ImageFault};
-ghost use Rattle.goblin_mach.specs.Items.{ContentView, content_bytes, content_view, items_in};
+ghost use Rattle.goblin_mach.specs.Image.{LossyFault};
+ghost use Rattle.goblin_mach.specs.Items.{content_view, items_in};
 ghost use Rattle.goblin_mach.specs.ItemsLeft.{input_item_read, input_items_left};
-ghost use Rattle.goblin_mach.specs.OpenImage.{IsImage};
-ghost use Rattle.goblin_mach.specs.View.{ViewFault};
+ghost use Rattle.goblin_mach.specs.OpenImage.{IsLossyImage};
+ghost use Rattle.goblin_mach.specs.View.{IsReported, ViewFault};
+ghost use Rattle.mach_cli.specs.Foreigners.{refused_words};
 ghost use Rattle.mach_cli.specs.Held.{IsSubject};
 ghost use Rattle.mach_cli.specs.Labels.{label_view};
 ghost use Rattle.mach_cli.specs.Refusals.{refusal_reason};
 ghost use Rattle.mach_cli.specs.Selected.{within_left};
-ghost use Rattle.mach_cli.specs.Shown.{IsFatTable, IsMemberOrFile, Prints, Shown, ShowsFile, ShowsItem, ShowsItems, item_front, not_shown, refused_for, way_in};
+ghost use Rattle.mach_cli.specs.Shown.{IsFatTable, IsMemberOrFile, OpensAfter, Prints, Shown, ShowsAfter, ShowsFile, ShowsImage, ShowsItem};
+ghost use Rattle.mach_cli.specs.Shown.{ShowsItems, item_front, not_shown, refused_for, way_in};
 ghost use Rattle.mach_cli.specs.Statuses.{IsStatus, status_by};
 ghost use Rattle.mach_cli.specs.TableEntries.{outside_at};
 ghost use Rattle.mach_parts.specs.ArchForms.{arch_form_32};
@@ -32,8 +35,8 @@ use crate::parts::selection::SelectedParts;
 use crate::refusal::{Refusal, complain, refusal_of, refusal_of_content};
 use crate::sink::Sink;
 use goblin_mach::fat::FatArch;
-use goblin_mach::{Content, Images, Input, InputItem, Mach, MachO, Result, describe};
-use std::alloc::{Allocator, Global};
+use goblin_mach::{Content, Error, Images, Input, InputItem, Mach, MachO, Result, describe};
+use std::alloc::{AllocError, Allocator, Global};
 use std::io;
 use std::io::{BufWriter, Write};
 
@@ -45,6 +48,8 @@ pub(crate) struct Document<'a, V, K> {
     pub names: Names<'a>,
     /// The cpu whose images are selected.
     pub cpu: Cpu,
+    /// Whether an image that strict mode refuses is shown as lossy mode opens it.
+    pub is_lossy: bool,
     /// The number of lines for all images together, and of images (`most_images`).
     pub limit: usize,
     /// What is printed of an image.
@@ -75,6 +80,16 @@ fn open<'a>(alloc: Global, bytes: &'a [u8]) -> Result<Subject<'a>>
             let images = Input::Fat(container).images();
             Ok(Subject::Fat(images, records))
         }
+    }
+}
+
+// Returns nothing, or a refused allocation if the error is one.
+fn unless_memory(error: &Error) -> std::result::Result<(), AllocError>
+    ensures { OnOk result (IsReported error.now) }
+{
+    match error {
+        Error::Memory(_) => Err(AllocError),
+        _ => Ok(()),
     }
 }
 
@@ -132,22 +147,55 @@ impl<V: ImageView, K: Sink> Document<'_, V, K> {
     {
         let rt = self.rt;
         match open(rt.alloc(), bytes) {
-            Ok(Subject::Image(image)) => self.show_one(&image, out, err),
+            Ok(Subject::Image(image)) => self.show_one(&image, None, out, err),
             Ok(Subject::Fat(images, records)) => {
                 self.show_fat(bytes, images, records.as_slice(), out, err)
             }
-            Err(error) => self.refuse(refusal_of(bytes, &error), out, err),
+            Err(error) => {
+                let refusal = refusal_of(bytes, &error);
+                match self.open_lossy(bytes, &error) {
+                    Ok(Some(image)) => self.show_one(&image, Some(refusal), out, err),
+                    Ok(None) => self.refuse(refusal, out, err),
+                    Err(AllocError) => self.refuse(Refusal::Memory, out, err),
+                }
+            }
         }
     }
 
-    // Shows a file that is one image, if it is selected.
+    // Opens in lossy mode, if that is selected, an image that strict mode refused for this error. The error is a refused allocation.
+    fn open_lossy<'b>(
+        &self,
+        bytes: &'b [u8],
+        error: &Error,
+    ) -> std::result::Result<Option<MachO<'b>>, AllocError>
+        ensures opened { IfOk result (λ found. IfSome found (λ image. (self.now.is_lossy ≡ true) × IsLossyImage bytes.now 0 image)) }
+        ensures reported { OnOk result (IsReported error.now) }
+        ensures refused { IfOk result (λ found. IfNone found (self.now.is_lossy ≡ true → (f : Fault) × LossyFault bytes.now 0 f)) }
+    {
+        unless_memory(error)?;
+        if !self.is_lossy {
+            return Ok(None);
+        }
+        let rt = self.rt;
+        match MachO::parse_lossy(rt.alloc(), bytes, 0) {
+            Ok(image) => Ok(Some(image)),
+            Err(again) => {
+                unless_memory(&again)?;
+                Ok(None)
+            }
+        }
+    }
+
+    // Shows a file that is one image, if it is selected, after the refusal of strict mode, if there is one.
     fn show_one<O: Write, E: Write>(
         &self,
         image: &MachO<'_>,
+        refused: Option<Refusal<'_>>,
         out: &mut O,
         err: &mut E,
     ) -> io::Result<Outcome>
-        ensures { let d = self.now in (bytes : List ℕ) → IsImage bytes 0 image.now
+        ensures { let d = self.now in (bytes : List ℕ) → IsLossyImage bytes 0 image.now
+            → OpensAfter d.is_lossy bytes (ViewFault bytes) (refused_words bytes) (option_map refusal_reason refused.entry)
             → IfOk result (λ outcome. Prints (ShowsFile (way_in K.texts V.lines d) d.cpu d.limit bytes) outcome
             (O.contents out.old) (O.contents out.new) (E.contents err.old) (E.contents err.new)) }
     {
@@ -157,7 +205,7 @@ impl<V: ImageView, K: Sink> Document<'_, V, K> {
         }
         self.sink.begin_file(0, out)?;
         self.begin(true, Label::None, out)?;
-        let outcome = self.show_image(Label::None, image, self.limit, out, err)?;
+        let outcome = self.show_opened(Label::None, image, refused, self.limit, out, err)?;
         self.sink.end_file(false, "image", self.names.file, out)?;
         Ok(outcome)
     }
@@ -297,12 +345,41 @@ impl<V: ImageView, K: Sink> Document<'_, V, K> {
     {
         let rt = self.rt;
         match content.open(rt.alloc()) {
-            Ok(image) => self.show_image(label, &image, left, out, err),
+            Ok(image) => self.show_opened(label, &image, None, left, out, err),
             Err(error) => {
                 let refusal = refusal_of_content(content, &error);
-                self.refuse_image(label, refusal, left, out, err)
+                match self.open_lossy(content.bytes(), &error) {
+                    Ok(Some(image)) => {
+                        self.show_opened(label, &image, Some(refusal), left, out, err)
+                    }
+                    Ok(None) => self.refuse_image(label, refusal, left, out, err),
+                    Err(AllocError) => { self.refuse_image(label, Refusal::Memory, left, out, err) }
+                }
             }
         }
+    }
+
+    // Reports the refusal of strict mode, if there is one, and shows an image that is begun under this label.
+    fn show_opened<O: Write, E: Write>(
+        &self,
+        label: Label<'_>,
+        image: &MachO<'_>,
+        refused: Option<Refusal<'_>>,
+        left: usize,
+        out: &mut O,
+        err: &mut E,
+    ) -> io::Result<Outcome>
+        ensures { (bytes : List ℕ) → IsLossyImage bytes 0 image.now → IfOk result (λ outcome.
+            Prints (ShowsAfter (way_in K.texts V.lines self.now) left (label_view label.entry) bytes (option_map refusal_reason refused.entry))
+            outcome (O.contents out.old) (O.contents out.new) (E.contents err.old) (E.contents err.new)) }
+    {
+        let Some(refusal) = refused else {
+            return self.show_image(label, image, left, out, err);
+        };
+        complain(self.names, label, refusal, err)?;
+        let mut outcome = self.show_image(label, image, left, out, err)?;
+        outcome.whole = false;
+        Ok(outcome)
     }
 
     // Shows an image that is begun under this label.
@@ -314,8 +391,8 @@ impl<V: ImageView, K: Sink> Document<'_, V, K> {
         out: &mut O,
         err: &mut E,
     ) -> io::Result<Outcome>
-        ensures { (content : ContentView) → IsImage (content_bytes content) 0 image.now
-            → IfOk result (λ outcome. Prints (ShowsItem (way_in K.texts V.lines self.now) left (label_view label.entry) None (Ok content)) outcome
+        ensures { (bytes : List ℕ) → IsLossyImage bytes 0 image.now
+            → IfOk result (λ outcome. Prints (ShowsImage (way_in K.texts V.lines self.now) left (label_view label.entry) bytes) outcome
             (O.contents out.old) (O.contents out.new) (E.contents err.old) (E.contents err.new)) }
     {
         let Document {

@@ -8,7 +8,7 @@ ghost use Rattle.mach_cli.specs.Fields.{fields_line, fields_object, fields_pairs
 ghost use Rattle.mach_cli.specs.Fields.{value_in_line, value_in_object, value_in_width, value_view, whether, wide_field, word_if};
 
 use crate::digits::{print_decimal, print_hexadecimal, print_signed, print_wide_hexadecimal};
-use crate::escaped::{print_escaped, print_wide_escaped};
+use crate::escaped::{EscapedBytes, print_bytes, print_escaped, print_wide_escaped};
 use crate::json::text::print_string;
 use crate::record_fields::{RecordFields, print_record_members, print_record_pairs};
 use goblin_mach::chained_fixups::PointerAuth;
@@ -42,6 +42,11 @@ pub enum Value<'a> {
     SourceVersion(u64),
     /// A UUID.
     Uuid([u8; 16]),
+    /// Bytes of the file: a line has them as a text, in which each byte that is no part of a UTF-8 character is `\xNN`; an object
+    /// has two digits for each.
+    Bytes(&'a [u8]),
+    /// Bytes of the file, two digits for each.
+    Digits(&'a [u8]),
     /// Whether something is so, and the words that a line has for it.
     Flag {
         is_so: bool,
@@ -210,6 +215,11 @@ fn print_value<O: Write>(value: Value<'_>, out: &mut O) -> io::Result<()>
             let uuid = UuidText(&uuid);
             write!(out, "{uuid}")
         }
+        Value::Bytes(bytes) => {
+            let text = EscapedBytes(bytes);
+            write!(out, "{text}")
+        }
+        Value::Digits(bytes) => print_bytes(bytes, out),
         Value::Flag { is_so, yes, no } => print_escaped(word_if(is_so, yes, no), out),
         Value::Flags {
             is_weak,
@@ -261,6 +271,11 @@ fn print_in_object<O: Write>(value: Value<'_>, out: &mut O) -> io::Result<()>
         Value::Uuid(uuid) => {
             let uuid = UuidText(&uuid);
             write!(out, "\"{uuid}\"")
+        }
+        Value::Bytes(bytes) | Value::Digits(bytes) => {
+            out.write_all(b"\"")?;
+            print_bytes(bytes, out)?;
+            out.write_all(b"\"")
         }
         Value::Flag { is_so: true, .. } => out.write_all(b"true"),
         Value::Flag { is_so: false, .. } => out.write_all(b"false"),

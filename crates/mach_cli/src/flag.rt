@@ -19,6 +19,7 @@ const SHARED: &str = "      --json                print one JSON object per file
   -0                        names in the lists of --names end with NUL
       --arch NAME           show only images for this cpu
       --cputype 0xN         show only images with this cputype
+      --lossy               show what can be read of an image that is refused
       --at ADDRESS          print what each image has at an address
       --color WHEN          colour what is at fault: auto, always or never
   -h                        print the usage

@@ -30,9 +30,9 @@ pub fn cputype_in(word: &str) -> Option<u32>
     u32::try_from(number_in(word, 8)?).ok()
 }
 
-/// Returns the address in an argument: `0x`, and 1 to 16 hexadecimal digits.
+/// Returns the address in an argument: 1 to 16 hexadecimal digits, perhaps after `0x`.
 pub fn address_in(word: &str) -> Option<u64>
     ensures { result ≡ word_address word.now }
 {
-    number_in(word, 16)
+    value_of(word.strip_prefix("0x").unwrap_or(word), 16)
 }

@@ -20,6 +20,8 @@ pub struct ImageFiles<T, J> {
     pub program: Program,
     /// The cpu whose images are selected.
     pub cpu: Cpu,
+    /// Whether an image that strict mode refuses is shown as lossy mode opens it.
+    pub is_lossy: bool,
     /// The number of lines or rows of a file.
     pub limit: usize,
     /// Whether objects are shown.
@@ -45,6 +47,7 @@ impl<T: Copy, J: Copy> ImageFiles<T, J> {
         ensures { let c = call.now in result ≡ record {
           program = program;
           cpu = c.cpu;
+          is_lossy = c.is_lossy;
           limit = limit_of c.limit most;
           is_json = is_json c.format;
           has_titles = true;
@@ -55,6 +58,7 @@ impl<T: Copy, J: Copy> ImageFiles<T, J> {
         ImageFiles {
             program,
             cpu: call.cpu,
+            is_lossy: call.is_lossy,
             limit: call.limit.unwrap_or(most),
             is_json: call.format.is_json(),
             has_titles: true,
@@ -78,11 +82,13 @@ impl<T: Copy, J: Copy> ImageFiles<T, J> {
 
     /// Returns what is shown of each file as text.
     pub fn as_text(&self) -> ImagesView<T, Text>
-        ensures { let s = self.now in result ≡ record { program = s.program; cpu = s.cpu; limit = s.limit; view = s.lines; sink = record {} } }
+        ensures { let s = self.now in result ≡
+            record { program = s.program; cpu = s.cpu; is_lossy = s.is_lossy; limit = s.limit; view = s.lines; sink = record {} } }
     {
         ImagesView {
             program: self.program,
             cpu: self.cpu,
+            is_lossy: self.is_lossy,
             limit: self.limit,
             view: self.lines,
             sink: Text,
@@ -91,11 +97,13 @@ impl<T: Copy, J: Copy> ImageFiles<T, J> {
 
     /// Returns what is shown of each file as text, under the headings of `llvm-nm`.
     pub fn as_nm(&self) -> ImagesView<T, NmText>
-        ensures { let s = self.now in result ≡ record { program = s.program; cpu = s.cpu; limit = s.limit; view = s.lines; sink = record {} } }
+        ensures { let s = self.now in result ≡
+            record { program = s.program; cpu = s.cpu; is_lossy = s.is_lossy; limit = s.limit; view = s.lines; sink = record {} } }
     {
         ImagesView {
             program: self.program,
             cpu: self.cpu,
+            is_lossy: self.is_lossy,
             limit: self.limit,
             view: self.lines,
             sink: NmText,
@@ -104,11 +112,13 @@ impl<T: Copy, J: Copy> ImageFiles<T, J> {
 
     /// Returns what is shown of each file as JSON.
     pub fn as_json(&self) -> ImagesView<J, Json>
-        ensures { let s = self.now in result ≡ record { program = s.program; cpu = s.cpu; limit = s.limit; view = s.objects; sink = record {} } }
+        ensures { let s = self.now in result ≡
+            record { program = s.program; cpu = s.cpu; is_lossy = s.is_lossy; limit = s.limit; view = s.objects; sink = record {} } }
     {
         ImagesView {
             program: self.program,
             cpu: self.cpu,
+            is_lossy: self.is_lossy,
             limit: self.limit,
             view: self.objects,
             sink: Json,

@@ -18,7 +18,7 @@ pub struct Outcome {
 pub trait ImageView {
     ghost use Rattle.std.specs.Prelude.{◌≡◌, [], ℕ, List, IfOk, IfErr};
     ghost use Rattle.std.specs.Io.KnownBytes.{Appends};
-    ghost use Rattle.goblin_mach.specs.OpenImage.{IsImage};
+    ghost use Rattle.goblin_mach.specs.OpenImage.{IsLossyImage};
     ghost use Rattle.mach_cli.specs.Failures.{IfMemory};
     ghost use Rattle.mach_cli.specs.Shown.{ImageLines};
 
@@ -36,7 +36,7 @@ pub trait ImageView {
         left: usize,
         out: &mut O,
     ) -> Result<Outcome, ShowFailure>
-        ensures shown { (bytes : List ℕ) → IsImage bytes 0 image.now
+        ensures shown { (bytes : List ℕ) → IsLossyImage bytes 0 image.now
             → IfOk result (λ outcome. (text : List ℕ) × lines self.now file.now limit left bytes text outcome.whole outcome.left
             × Appends (O.contents out.old) (O.contents out.new) text) }
         ensures memory { IfErr result (IfMemory (Appends (O.contents out.old) (O.contents out.new) [])) };

@@ -19,6 +19,8 @@ pub struct ImagesView<V, K> {
     pub program: Program,
     /// The cpu whose images are selected.
     pub cpu: Cpu,
+    /// Whether an image that strict mode refuses is shown as lossy mode opens it.
+    pub is_lossy: bool,
     /// The number of lines for all images of a file together.
     pub limit: usize,
     /// What is printed of an image.
@@ -31,7 +33,7 @@ impl<V: ImageView, K: Sink, W: Write + Drop, B: Allocator> FileView<BufWriter<W,
     for ImagesView<V, K> {
     ghost use Rattle.mach_cli.specs.ShownCalls.{ShowsImages};
 
-    ghost shows = { λ s. ShowsImages K.texts s.program.name.now s.cpu s.limit (V.lines s.view) W.contents };
+    ghost shows = { λ s. ShowsImages K.texts s.program.name.now s.cpu s.is_lossy s.limit (V.lines s.view) W.contents };
 
     fn show(&self, rt: &HostRuntime, name: &str, bytes: &[u8], out: &mut BufWriter<W, B>) -> u8 {
         let document = Document {
@@ -41,6 +43,7 @@ impl<V: ImageView, K: Sink, W: Write + Drop, B: Allocator> FileView<BufWriter<W,
                 file: name,
             },
             cpu: self.cpu,
+            is_lossy: self.is_lossy,
             limit: most_items(self.limit, bytes),
             view: &self.view,
             sink: self.sink,

@@ -4,7 +4,7 @@ ghost use Rattle.std.specs.Prelude.{◌≡◌};
 ghost use Rattle.mach_cli.specs.Misuses.{unknown_in};
 ghost use Rattle.mach_dyld.specs.Exports.{text_in};
 
-use crate::escaped::Escaped;
+use crate::escaped::{Escaped, EscapedBytes};
 use crate::word::NoText;
 use std::fmt;
 use std::fmt::{Display, Formatter, Write};
@@ -27,6 +27,10 @@ pub enum Misuse<'a> {
     NoCpu(&'a str),
     /// What should be an address isn't one.
     NoAddress(&'a str),
+    /// A line of standard input that should be an address isn't one.
+    NoAddressLine(NoText<'a>),
+    /// Standard input is named twice.
+    InputTwice,
     /// What should say when output is coloured doesn't.
     NoColor(&'a str),
     /// An argument is missing: this one.
@@ -51,6 +55,11 @@ impl Display for Misuse<'_> {
             Misuse::NoNumber(word) => write!(f, "'{}' is not a number", Escaped(word)),
             Misuse::NoCpu(word) => write!(f, "'{}' is not a cpu", Escaped(word)),
             Misuse::NoAddress(word) => write!(f, "'{}' is not an address", Escaped(word)),
+            Misuse::NoAddressLine(line) => {
+                let (what, number, shown) = (line.what, line.number, EscapedBytes(line.bytes));
+                write!(f, "{what} {number}, '{shown}', is not an address")
+            }
+            Misuse::InputTwice => write!(f, "standard input can't be read twice"),
             Misuse::NoColor(word) => {
                 write!(f, "'{}' is not auto, always or never", Escaped(word))
             }

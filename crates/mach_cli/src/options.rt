@@ -40,6 +40,10 @@ pub struct Options {
     pub has_quiet: bool,
     /// `--at`.
     pub has_address: bool,
+    /// `--load-address`.
+    pub has_load_address: bool,
+    /// `--lossy`.
+    pub has_lossy: bool,
 }
 
 impl Options {
@@ -52,6 +56,8 @@ impl Options {
         has_json: false,
         has_quiet: false,
         has_address: false,
+        has_load_address: false,
+        has_lossy: false,
     };
 
     /// The options of a program that shows the images of files.
@@ -63,6 +69,8 @@ impl Options {
         has_json: true,
         has_quiet: false,
         has_address: false,
+        has_load_address: false,
+        has_lossy: true,
     };
 }
 

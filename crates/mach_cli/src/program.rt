@@ -8,12 +8,14 @@ ghost use Rattle.mach_cli.specs.Outputs.{is_colouring, painter_in, IsFresh};
 ghost use Rattle.mach_cli.specs.ProgramTexts.{program_text};
 ghost use Rattle.mach_cli.specs.Statuses.{IsStatus};
 
-use crate::call::{Asked, Call, Request, understand};
+use crate::address::read::add_addresses;
+use crate::call::{Asked, Call, Request, Untaken, understand};
 use crate::color::Color;
 use crate::complaint::{Complaint, Trouble};
 use crate::flag::Help;
 use crate::label::Label;
 use crate::misuse::Misuse;
+use crate::named::names_of;
 use crate::names::Names;
 use crate::options::{Format, Options, OwnOptions};
 use crate::output::say;
@@ -154,6 +156,33 @@ impl Program {
                 let _ = rt.eprintln(format_args!("{names}: {error}"));
                 Err(2)
             }
+        }
+    }
+
+    /// Adds the addresses that standard input has, if a call reads them, to those of the call. If it can't be read, or a line is no
+    /// address, that is reported, and the error is the exit status.
+    pub fn read_addresses<O>(
+        &self,
+        rt: &HostRuntime,
+        call: &mut Call<'_, Global, O>,
+    ) -> Result<(), u8>
+        ensures kept { call_view call.new ≡ record (call_view call.old) { addresses = call.new.addresses.items } }
+        ensures unread { IfErr result IsUnreadStatus }
+    {
+        if !call.reads_addresses {
+            return Ok(());
+        }
+        if call.words.contains(&"-") || call.others.lists.contains(&"-") {
+            return Err(self.bad_usage(rt, Misuse::InputTwice));
+        }
+        let bytes = self.read(rt, "-")?;
+        let Ok(lines) = names_of(rt.alloc(), b'\n', &bytes) else {
+            return Err(self.out_of_memory(rt));
+        };
+        match add_addresses(lines.as_slice(), &mut call.addresses) {
+            Ok(()) => Ok(()),
+            Err(Untaken::Misuse(misuse)) => Err(self.bad_usage(rt, misuse)),
+            Err(Untaken::Memory) => Err(self.out_of_memory(rt)),
         }
     }
 

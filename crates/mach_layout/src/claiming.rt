@@ -3,7 +3,6 @@
 ghost use Rattle.std.specs.Prelude.{◌≡◌, ◌<◌, ◌*◌, ◌∷◌, [], IfSome, slice_get};
 ghost use Rattle.mach_records.specs.Linkedit.{dyld_info_command_values, linkedit_data_command_values};
 ghost use Rattle.mach_records.specs.SymbolTables.{symtab_command_values, dysymtab_command_values};
-ghost use Rattle.mach_parts.specs.Section.{is_zero_fill};
 ghost use Rattle.mach_load.specs.Variants.{command_of};
 ghost use Rattle.mach_layout.specs.Laid.{laid_of, newer_of};
 ghost use Rattle.mach_layout.specs.Claims as defined;
@@ -16,8 +15,8 @@ use crate::placed_sections::{PlacedSection, PlacedSegment, segment_of, take_sect
 use crate::rules::{Items, owner_at};
 use mach_base::Container;
 use mach_load::{CommandVariant, LoadCommand, NewerCommand};
+use mach_parts::segment::is_of_zeros;
 use mach_parts::symbols::{SIZEOF_NLIST_32, SIZEOF_NLIST_64};
-use mach_records::constants::{S_GB_ZEROFILL, S_THREAD_LOCAL_ZEROFILL, S_ZEROFILL, SECTION_TYPE};
 use mach_records::{DyldInfoCommand, DysymtabCommand, LinkeditDataCommand, SymtabCommand};
 use std::slice::Iter;
 
@@ -226,14 +225,6 @@ pub fn has_bytes(layout: &Layout<'_, '_>, placed: &PlacedSection) -> bool
         && !is_of_zeros(placed.section.flags)
         && !layout.is_stub()
         && !(layout.is_dsym() && placed.section.offset == 0)
-}
-
-// Whether a section with these flags is zero-filled, so that it takes no bytes of the file.
-fn is_of_zeros(flags: u32) -> bool
-    ensures { result ≡ is_zero_fill flags }
-{
-    let kind = flags & SECTION_TYPE;
-    kind == S_ZEROFILL || kind == S_GB_ZEROFILL || kind == S_THREAD_LOCAL_ZEROFILL
 }
 
 // Returns the claim of `len` bytes from a start on, by a part of a section.

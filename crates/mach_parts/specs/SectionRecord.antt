@@ -8,11 +8,12 @@ use Rattle.mach_base.specs.declared.context.Container.TheVariants.{Little, Big}
 use Rattle.mach_base.specs.Answer.{◌>>=◌}
 use Rattle.mach_base.specs.Fault.{Fault}
 use Rattle.mach_base.specs.Items.{items_from}
+use Rattle.mach_base.specs.Number.{slice_at}
 use Rattle.mach_base.specs.Record.{record_at}
 use Rattle.mach_records.specs.Segments.{section32_fields, section32_of_values, section64_fields, section64_of_values}
 use Rattle.mach_records.specs.declared.segments.Section32.{Section32}
 use Rattle.mach_records.specs.declared.segments.Section64.{Section64}
-use Rattle.mach_parts.specs.Section.{own_sections, section_place}
+use Rattle.mach_parts.specs.Section.{is_zero_fill, own_sections, section_place}
 use Rattle.mach_parts.specs.Segment.{SegmentView}
 use Rattle.mach_parts.specs.declared.segment.numbered.NumberedSection.{NumberedSection}
 
@@ -38,6 +39,10 @@ wider_section s =
 abbrev pub section_record_at : Container → Endian → List ℕ → ℕ → Result Section64 Fault
 section_record_at Little le bytes place = record_at le section32_fields bytes place >>= (λ vs. Ok (wider_section (section32_of_values vs)))
 section_record_at Big le bytes place = record_at le section64_fields bytes place >>= (λ vs. Ok (section64_of_values vs))
+
+-- the bytes of a section among those of its image, of which a zero-filled one has none; or the reason why they aren't there
+abbrev pub bytes_of_section : List ℕ → Section64 → Result (List ℕ) Fault
+bytes_of_section bytes s = if is_zero_fill s.flags then Ok [] else slice_at s.size bytes s.offset
 
 -- the items before the first fault
 abbrev pub in_front : {X : Type 0} → List (Result X Fault) → List X

@@ -23,7 +23,7 @@ pub use crate::segment::numbered::{
 };
 pub use crate::segment::readable::{ReadableSections, section_holding};
 pub use crate::segment::relocations::RelocationIterator;
-pub use crate::segment::section::{Section, SectionData};
+pub use crate::segment::section::{Section, SectionData, is_of_zeros};
 pub use crate::segment::sections::{SectionIterator, own_sections, place_of};
 use mach_base::{Container, Ctx, Result, bytes_at, read_text};
 use mach_records::{LC_SEGMENT, LC_SEGMENT_64, SegmentCommand32, SegmentCommand64};

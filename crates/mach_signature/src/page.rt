@@ -2,7 +2,6 @@
 
 ghost use Rattle.std.specs.Prelude.{◌≡◌, map, slice_get, Option};
 ghost use Rattle.std.specs.Option.{option_map};
-ghost use Rattle.mach_parts.specs.Section.{is_zero_fill};
 ghost use Rattle.mach_parts.specs.SectionRecord.{numbered_section};
 ghost use Rattle.mach_parts.specs.Segment.{segment_view};
 ghost use Rattle.mach_signature.specs.DirectoryViews.{directory_view};
@@ -13,9 +12,8 @@ ghost use Rattle.mach_signature.specs.Pages as defined;
 use crate::directory::CodeDirectory;
 use crate::fault::{CodeFault, DirectoryFault, SignatureFault};
 use crate::signature::CodeSignature;
-use goblin_mach::segment::Segment;
+use goblin_mach::segment::{Segment, is_of_zeros};
 use mach_base::bytes_at;
-use mach_records::constants::{S_GB_ZEROFILL, S_THREAD_LOCAL_ZEROFILL, S_ZEROFILL, SECTION_TYPE};
 
 /// A page that isn't what was signed.
 #[derive(Clone, Copy)]
@@ -169,14 +167,6 @@ fn segment_number(segments: &[Segment<'_>], page: ChangedPage) -> Option<usize>
         }
     }
     None
-}
-
-// Whether a section with these flags has no part in the file.
-fn is_of_zeros(flags: u32) -> bool
-    ensures { result ≡ is_zero_fill flags }
-{
-    let kind = flags & SECTION_TYPE;
-    kind == S_ZEROFILL || kind == S_GB_ZEROFILL || kind == S_THREAD_LOCAL_ZEROFILL
 }
 
 // Whether a section can be read, and its part in the file has a byte of a page.

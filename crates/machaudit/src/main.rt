@@ -37,6 +37,7 @@ are not.
     version: "machaudit 0.3.0\n",
     options: mach_cli::Options {
         has_quiet: true,
+        has_lossy: false,
         ..mach_cli::Options::OF_IMAGES
     },
     words: "",

@@ -1,6 +1,6 @@
 -- The nearest symbol of a section is one, and it is that of `nearest_of`.
-use Rattle.std.proofs.Common.{◌≡◌, ◌∙◌, ℕ, zero, suc, ◌-◌, ◌+◌, ◌<◌, ◌≤◌, Bool, cond, true, false, List, [], ◌∷◌, Option, Some, None, Result, Ok, Err}
-use Rattle.std.proofs.Common.{refl, ap, sym, subst, arith, slice_get, nat_le, not, ◌&&◌}
+use Rattle.std.proofs.Common.{◌≡◌, ◌∙◌, ℕ, zero, suc, ◌-◌, ◌<◌, ◌≤◌, Bool, cond, true, false, List, [], ◌∷◌, Option, Some, None, Result, Ok, Err}
+use Rattle.std.proofs.Common.{refl, ap, sym, subst, arith, nat_le, not, ◌&&◌}
 use Rattle.std.specs.Prelude.{◌==◌, option_map}
 use Rattle.std.proofs.lemmas.Bool.{and_parts, leb-true, leb-false}
 use Rattle.std.proofs.lemmas.Option.{same_Some}
@@ -12,7 +12,7 @@ use Rattle.mach_parts.specs.declared.symbols.nlist.Nlist.{Nlist}
 use Rattle.goblin_mach.specs.NearestSymbol.{found_symbol_view, is_below, section_number, IsBelow, IsNearest, IsNearestIn, IsSymbolAt}
 use Rattle.goblin_mach.specs.declared.macho.nearest.SymbolAt.{SymbolAt}
 use Rattle.goblin_mach.proofs.LookUpLaws.{one_symbol}
-use Rattle.machfixups.specs.TargetSymbols.{PointerSymbol, below_if_any, nearer_of, nearest_in_section, nearest_of, pointer_symbol_of}
+use Rattle.machfixups.specs.TargetSymbols.{PointerSymbol, nearer_of, nearest_in_section, nearest_of, pointer_symbol_of}
 
 abbrev Items : Type 0
 Items = List (Result (List ℕ × Nlist) Fault)

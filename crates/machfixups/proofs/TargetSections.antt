@@ -1,5 +1,5 @@
 -- The sections that symbols can name.
-use Rattle.std.proofs.Common.{◌≡◌, ◌∙◌, ℕ, Bool, cond, true, false, List, [], ◌∷◌, Option, Some, None, refl, ap, sym, map, take}
+use Rattle.std.proofs.Common.{◌≡◌, ◌∙◌, ℕ, Bool, cond, true, false, List, [], ◌∷◌, Option, Some, None, refl, ap, map, take}
 use Rattle.std.specs.Prelude.{find, option_map}
 use Rattle.std.proofs.lemmas.List.{take-map}
 use Rattle.mach_parts.specs.SectionRecord.{holds_address, readable_sections}

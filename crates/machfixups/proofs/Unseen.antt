@@ -1,6 +1,6 @@
 -- If no rebase is shown, the rows are the same whatever symbols there are.
-use Rattle.std.proofs.Common.{◌≡◌, ◌∙◌, ◌++◌, ℕ, Bool, cond, true, false, List, [], ◌∷◌, Option, Result, Ok, Err, refl, ap, sym, map}
-use Rattle.std.specs.Prelude.{◌||◌, if◌then◌else◌}
+use Rattle.std.proofs.Common.{◌≡◌, ℕ, Bool, cond, true, false, List, [], ◌∷◌, Option, Result, Ok, Err, refl, ap, sym, map}
+use Rattle.std.specs.Prelude.{◌||◌}
 use Rattle.std.proofs.lemmas.Bool.{or_parts}
 use Rattle.mach_base.specs.Fault.{Fault}
 use Rattle.mach_chained.specs.Fixups.{Fixup}
@@ -12,7 +12,7 @@ use Rattle.mach_parts.specs.PointerSigning.{Auth}
 use Rattle.goblin_mach.specs.AllStretches.{SegmentStretches}
 use Rattle.machfixups.specs.KeptFixups.{keeps_fixup, keeps_kind, kept_fixups, kinds_in_lines, kinds_in_objects}
 use Rattle.machfixups.specs.Lists.{PointerLists}
-use Rattle.machfixups.specs.Rows.{Action, PointerRow, PointerRows, action_of, chain_rows, picked, row_by_segment, row_for_fixup, row_for_rebase}
+use Rattle.machfixups.specs.Rows.{Action, PointerRows, action_of, chain_rows, picked, row_by_segment, row_for_fixup, row_for_rebase}
 use Rattle.machfixups.specs.Rows.{rows_shown, source_if}
 use Rattle.machfixups.specs.StoredPointers.{PointerSource, raw_of}
 use Rattle.machfixups.specs.TargetSymbols.{PointerSymbol}

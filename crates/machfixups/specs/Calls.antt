@@ -17,6 +17,7 @@ use Rattle.machfixups.specs.declared.rows.Selection.{Selection}
 pub record AreFixupFiles {A : Type 0} (call : Call A Selection) (s : ImageFiles FixupLines FixupObjects) : Type 0 where
   pub program : s.program.name.now ≡ codes "machfixups"
   pub cpu : s.cpu ≡ call.cpu
+  pub lossy : s.is_lossy ≡ call.is_lossy
   pub limit : s.limit ≡ limit_of call.limit 10000000
   pub form : s.is_json ≡ is_json call.format
   pub titles : s.has_titles ≡ true

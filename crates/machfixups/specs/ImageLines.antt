@@ -4,7 +4,7 @@ use Rattle.mach_base.specs.Fault.{Fault}
 use Rattle.mach_parts.specs.Segment.{SegmentView}
 use Rattle.mach_chained.specs.Header.{Fixups}
 use Rattle.goblin_mach.specs.Facts.{HasSegments, HasLibraries, HasChainedFixups}
-use Rattle.goblin_mach.specs.Image.{Opens}
+use Rattle.goblin_mach.specs.Image.{LossyOpens}
 use Rattle.machfixups.specs.Lists.{PointerLists, HasPointerLists}
 use Rattle.goblin_mach.specs.AllStretches.{parts_of}
 use Rattle.machfixups.specs.Headed.{headed}
@@ -27,7 +27,7 @@ ArePointerLines limit left rows text whole rest =
 -- the symbols at the targets of rebases. Of all lines these are the first ones, as many as are left of the limit, and a line
 -- follows if there are more. It is whole if there are no more and each can be read. Of the limit `rest` are left after it.
 pub record AreImagePointerLines (selection : Selection) (limit left : ℕ) (bytes : List ℕ) (text : List ℕ) (whole : Bool) (rest : ℕ) : Type 0 where
-  pub opens : Opens bytes 0
+  pub opens : LossyOpens bytes 0
   pub segments : List SegmentView
   pub has_segments : HasSegments bytes 0 segments
   pub lists : PointerLists

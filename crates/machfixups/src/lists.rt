@@ -6,7 +6,7 @@ ghost use Rattle.mach_base.specs.Text.{texts};
 ghost use Rattle.mach_chained.specs.Header.{Fixups};
 ghost use Rattle.goblin_mach.specs.Facts.{HasChainedFixups, HasLibraries};
 ghost use Rattle.goblin_mach.specs.Fixups.{chained_view};
-ghost use Rattle.goblin_mach.specs.OpenImage.{IsImage};
+ghost use Rattle.goblin_mach.specs.OpenImage.{IsLossyImage};
 ghost use Rattle.goblin_mach.specs.AllStretches.{parts_view};
 ghost use Rattle.machfixups.specs.Lists.{PointerLists, HasPointerLists};
 ghost use Rattle.machfixups.specs.RowFields.{fields_reported, lines_reported, pointer_row_fields, pointer_row_line};
@@ -109,13 +109,12 @@ impl<'p, 'a, 'b, B: Allocator> ImageRows<'p, 'a, 'b, B> {
         kinds: KindsOfLists,
         has_raw: bool,
     ) -> Self
-        ensures { (bytes : List ℕ) (o : ℕ) → IsImage bytes o image.now
+        ensures { (bytes : List ℕ) (o : ℕ) → IsLossyImage bytes o image.now
             → (lists : PointerLists) × HasPointerLists bytes o lists
             × (libs : List (List ℕ)) × HasLibraries bytes o libs
             × (chained : Result (Option Fixups) Fault) × HasChainedFixups bytes o chained
             × (image_rows_left result ≡ rows_shown has_raw shown kinds (parts_view parts.now) (symbols_seen symbols.now) libs (readable_table chained) lists) }
     {
-        laws::strict_image_is_lossy(image);
         laws::one_list_of_image_fixups();
         let rebases = Items::Rebases(image.opcode_rebases());
         let binds = Items::Binds(image.opcode_bindings());

@@ -68,7 +68,7 @@ const PROGRAM: Program = Program {
 rebases, the binds, the weak binds and the chained fixups.
 ",
     usage: "usage: machfixups [--rebases] [--binds] [--weak] [--chains] [--json] [--limit N]
-                  [--arch NAME | --cputype 0xN] [--names FILE [-0]]
+                  [--arch NAME | --cputype 0xN] [--lossy] [--names FILE [-0]]
                   [--color WHEN] FILE..
        machfixups -h | --help | --version
 ",

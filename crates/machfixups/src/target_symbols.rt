@@ -2,14 +2,13 @@
 
 ghost use Rattle.std.specs.Prelude.{◌≡◌, true, IfOk, find, map, option_map};
 ghost use Rattle.mach_parts.specs.SectionRecord.{holds_address};
-ghost use Rattle.mach_parts.specs.Segment.{segment_view};
-ghost use Rattle.goblin_mach.specs.NearestSymbol.{section_number, IsSymbolAt};
+ghost use Rattle.goblin_mach.specs.NearestSymbol.{IsSymbolAt};
 ghost use Rattle.goblin_mach.specs.OpenImage.{segments_view};
 ghost use Rattle.goblin_mach.specs.SymbolMaps.{image_of_map, image_symbols};
 ghost use Rattle.machfixups.specs.TargetSymbols.{nameable_section_at, target_symbol_option_view};
 ghost use Rattle.machfixups.specs.NameableSections.{nameable_sections};
 
-use goblin_mach::segment::{NumberedSection, Segment};
+use goblin_mach::segment::NumberedSection;
 use goblin_mach::symbols::MAX_SECT;
 use goblin_mach::{MachO, SymbolAt, SymbolMap};
 use mach_parts::segment::ReadableSections;
@@ -37,33 +36,19 @@ pub struct TargetSymbols<'a, 'b, A: Allocator> {
     ghost named: { sections.items ≡ nameable_sections (segments_view (image_of_map symbols)) },
 }
 
-// Returns the number by which symbols name a section: counted from 1 over all segments.
-fn section_number(segments: &[Segment<'_>], section: &NumberedSection) -> usize
-    ensures { result ≡ section_number (map segment_view segments.now) section.now }
-{
-    let mut number = section.number as usize + 1;
-    'segments: for (index, segment) in segments.iter().enumerate() {
-        if index >= section.segment {
-            break;
-        }
-        number = number.saturating_add(segment.nsects as usize);
-    }
-    number
-}
-
-// Returns the sections of some segments that symbols can name, in order.
+// Returns the sections of an image that symbols can name, in order.
 fn nameable_sections<A: Allocator>(
     alloc: A,
-    segments: &[Segment<'_>],
+    image: &MachO<'_, A>,
 ) -> Result<Vec<NameableSection, A>, AllocError>
-    ensures { IfOk result (λ v. v.items ≡ nameable_sections (map segment_view segments.now)) }
+    ensures { IfOk result (λ v. v.items ≡ nameable_sections (segments_view image.now)) }
 {
     let mut sections = Vec::new(alloc);
-    'sections: for section in ReadableSections::new(segments) {
+    'sections: for section in ReadableSections::new(image.segments.as_slice()) {
         if sections.len() >= usize::from(MAX_SECT) {
             return Ok(sections);
         }
-        let number = section_number(segments, &section);
+        let number = image.section_number(&section);
         sections.push(NameableSection { section, number })?;
     }
     Ok(sections)
@@ -95,7 +80,7 @@ impl<'a, 'b, A: Allocator + Clone> TargetSymbols<'a, 'b, A> {
         if !is_shown {
             return Ok(None);
         }
-        let sections = nameable_sections(alloc.clone()?, image.segments.as_slice())?;
+        let sections = nameable_sections(alloc.clone()?, image)?;
         match SymbolMap::new(alloc.clone()?, image) {
             Ok(symbols) => Ok(Some(TargetSymbols { symbols, sections })),
             Err(_) => Err(AllocError),

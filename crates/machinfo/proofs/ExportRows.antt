@@ -21,10 +21,10 @@ use Rattle.mach_dyld.specs.declared.export_info.ExportInfo.{ExportInfo}
 use Rattle.mach_dyld.specs.declared.export_walk.ExportWalk.{ExportWalk}
 use Rattle.mach_base.specs.Text.{texts}
 use Rattle.goblin_mach.specs.Fixups.{base_of, base_view}
-use Rattle.goblin_mach.specs.OpenImage.{IsImage, trie_view}
+use Rattle.goblin_mach.specs.OpenImage.{IsLossyImage, trie_view}
 use Rattle.goblin_mach.specs.Subjects.{trie_or_empty}
 use Rattle.goblin_mach.specs.declared.macho.MachO.{MachO}
-use Rattle.goblin_mach.proofs.ImageFacts.{facts_are, strict-lossy}
+use Rattle.goblin_mach.proofs.ImageFacts.{facts_are}
 use Rattle.mach_cli.proofs.Arrays as arrays
 use Rattle.mach_cli.proofs.Listings as lines
 use Rattle.mach_cli.specs.Fields.{FieldView}
@@ -206,11 +206,12 @@ one_item_more limit t libs found w h (Ok given) v goes full says ends on =
 -- ---- an image
 
 -- what is shown of an image, as the bytes have it
-pub fields_are : {A : Type 0} (bytes : List ℕ) (m : MachO A) → IsImage bytes 0 m → (base limit : ℕ) (items : List (Result Entry Fault)) → base ≡ base_view m
+pub fields_are : {A : Type 0} (bytes : List ℕ) (m : MachO A) → IsLossyImage bytes 0 m → (base limit : ℕ) (items : List (Result Entry Fault))
+    → base ≡ base_view m
     → AreShownExports limit (trie_or_empty (trie_view m)) (texts m.libs.items) items → HasExportFields limit bytes (fields_of_exports base items)
 fields_are bytes m opened base limit items is shown =
     let fields = fields_of_exports base items in
-    (facts_are bytes 0 m (strict-lossy bytes 0 m opened) (λ f. (found : List (Result Entry Fault))
+    (facts_are bytes 0 m opened (λ f. (found : List (Result Entry Fault))
     × AreShownExports limit (trie_or_empty f.trie) f.libs found × (fields ≡ fields_of_exports (base_of f.segments) found))).1
     (items, shown, ap (λ (b : ℕ). fields_of_exports b items) is)
 

@@ -20,13 +20,15 @@ use Rattle.goblin_mach.specs.ImageSlots.{indirect_symbols_in, indirect_table_vie
 use Rattle.goblin_mach.specs.ImageStreams.{AreImageRebases, AreImageWeakBinds, rebase_stream_in, weak_stream_in}
 use Rattle.goblin_mach.specs.EntryPoint.{EntryPoint}
 use Rattle.goblin_mach.specs.ImageFacts.{Facts, OfFacts, facts_view}
+use Rattle.goblin_mach.specs.Initializers.{AreImageInitializers}
+use Rattle.goblin_mach.specs.declared.initializers.Initializer.{Initializer}
 use Rattle.goblin_mach.specs.Libraries.{LibraryView, libraries_in}
 use Rattle.goblin_mach.specs.Bindings.{AreImageBindings}
-use Rattle.goblin_mach.specs.OpenImage.{IsImage, binds_view, bytes_view, commands_view, ctx_view, segments_view}
+use Rattle.goblin_mach.specs.OpenImage.{IsLossyImage, binds_view, bytes_view, commands_view, ctx_view, segments_view}
 use Rattle.goblin_mach.specs.Tables.{AreStartsAt, data_in_code_there, data_place_in, starts_place_in}
 use Rattle.goblin_mach.specs.declared.macho.MachO.{MachO}
-use Rattle.goblin_mach.proofs.ImageFacts.{bindings_are, entry_point_is, facts_are, libraries_by_kind_are, strict-lossy}
-use Rattle.goblin_mach.proofs.SlotFacts.{indirect_symbols_are, slots_are}
+use Rattle.goblin_mach.proofs.ImageFacts.{bindings_are, entry_point_is, facts_are, libraries_by_kind_are}
+use Rattle.goblin_mach.proofs.SlotFacts.{indirect_symbols_are, initializers_are, slots_are}
 use Rattle.goblin_mach.proofs.StreamFacts.{rebases_are, weak_binds_are}
 use Rattle.goblin_mach.proofs.TableFacts.{function_starts_are, data_in_code_are, linker_options_are, build_tools_are}
 use Rattle.mach_parts.specs.Segment.{SegmentView}
@@ -44,45 +46,48 @@ use Rattle.machinfo.specs.Parts.{EntryView, IsEntryRow, uuid_row_by}
 use Rattle.machinfo.specs.RowFields.{data_fields, fields_read, indirect_fields, library_row_fields, note_fields, option_fields}
 use Rattle.machinfo.specs.Relocations.{RelocationView, image_relocations, image_relocations_past, relocation_row_fields}
 use Rattle.machinfo.specs.RowFields.{provided_fields, rebase_row_fields, slot_fields, start_fields, tool_fields, weak_row_fields}
+use Rattle.machinfo.specs.SectionBytes.{byte_row_fields, bytes_held, listed_bytes}
+use Rattle.machinfo.specs.SectionContents.{StringRowView, image_strings, init_fields, listed_or_fault, string_fields}
 use Rattle.machinfo.specs.SectionRows.{section_rows_in, sections_past}
 use Rattle.machinfo.specs.Verdicts.{explained_fields, finding_fields}
 use Rattle.mach_audit.specs.Security.{all_findings}
 use Rattle.mach_audit.specs.declared.security.Finding.{Finding}
 use Rattle.mach_cli.specs.Fields.{FieldView}
 use Rattle.machinfo.specs.declared.parts.UuidRow.{UuidRow}
+use Rattle.machinfo.specs.declared.section_bytes.SectionName.{SectionName}
 use Rattle.machinfo.specs.declared.sections.SectionRow.{SectionRow}
 use Rattle.machinfo.specs.declared.word.Word.TheVariants as words
 
-module _ {A : Type 0} (m : MachO A) (bytes : List ℕ) (o : ℕ) (p : IsImage bytes o m) where
+module _ {A : Type 0} (m : MachO A) (bytes : List ℕ) (o : ℕ) (p : IsLossyImage bytes o m) where
   -- what holds of the parts of the image holds of those in the bytes
   of_parts : (Says : Facts → Type 0) → Says (facts_view m) → OfFacts bytes o Says
-  of_parts Says is = (facts_are bytes o m (strict-lossy bytes o m p) Says).1 is
+  of_parts Says is = (facts_are bytes o m p Says).1 is
 
   pub starts_are : (items : List (Result ℕ Fault)) → AreStartsAt (bytes_view m) (starts_place_in (commands_view m)) (base_view m) items
       → HasRows words.Starts bytes o (fields_read start_fields items) 0
-  starts_are items is = ((items, ((function_starts_are m).strict bytes o p items).1 is, refl), refl)
+  starts_are items is = ((items, ((function_starts_are m).lossy bytes o p items).1 is, refl), refl)
 
   pub slot_rows : (items : List (Result Slot Fault))
       → items ≡ image_slots (ctx_view m) (indirect_table_view m) (symbol_table_view m) (segments_view m)
       → HasRows words.Slots bytes o (fields_read slot_fields items) 0
-  slot_rows items is = ((items, ((slots_are m).strict bytes o p items).1 is, refl), refl)
+  slot_rows items is = ((items, ((slots_are m).lossy bytes o p items).1 is, refl), refl)
 
   pub indirect_rows : (items : List (Result IndirectSymbol Fault)) → items ≡ indirect_symbols_in (indirect_table_view m)
       → HasRows words.Indirect bytes o (fields_read indirect_fields (items_in_bounds items)) (length items - length (items_in_bounds items))
-  indirect_rows items is = (items, ((indirect_symbols_are m).strict bytes o p items).1 is, refl, refl)
+  indirect_rows items is = (items, ((indirect_symbols_are m).lossy bytes o p items).1 is, refl, refl)
 
   pub data_rows : (items : List (Result DataInCodeEntry Fault))
       → items ≡ data_in_code_there (ctx_view m).le (bytes_view m) (data_place_in (commands_view m))
       → HasRows words.Data bytes o (fields_read data_fields (items_in_bounds items)) (length items - length (items_in_bounds items))
-  data_rows items is = (items, ((data_in_code_are m).strict bytes o p items).1 is, refl, refl)
+  data_rows items is = (items, ((data_in_code_are m).lossy bytes o p items).1 is, refl, refl)
 
   pub option_rows : (items : List (Result (ℕ × List ℕ) Fault)) → items ≡ linker_options_in (bytes_view m) (commands_view m)
       → HasRows words.Options bytes o (fields_read option_fields items) 0
-  option_rows items is = ((items, ((linker_options_are m).strict bytes o p items).1 is, refl), refl)
+  option_rows items is = ((items, ((linker_options_are m).lossy bytes o p items).1 is, refl), refl)
 
   pub tool_rows : (items : List (Result (ℕ × BuildToolVersion) Fault)) → items ≡ build_tools_in (ctx_view m).le (bytes_view m) (commands_view m)
       → HasRows words.Tools bytes o (fields_read tool_fields items) 0
-  tool_rows items is = ((items, ((build_tools_are m).strict bytes o p items).1 is, refl), refl)
+  tool_rows items is = ((items, ((build_tools_are m).lossy bytes o p items).1 is, refl), refl)
 
   pub command_rows : (items : List CommandRowView)
       → items ≡ rows_of_commands m.header.cputype (numbered_commands_from (ctx_view m).le (bytes_view m) 0 (commands_view m))
@@ -107,17 +112,17 @@ module _ {A : Type 0} (m : MachO A) (bytes : List ℕ) (o : ℕ) (p : IsImage by
 
   pub library_rows : (items : List LibraryView) → items ≡ libraries_in (ctx_view m).le (bytes_view m) (commands_view m)
       → HasRows words.Libraries bytes o (map (λ l. Ok (library_row_fields l)) items) 0
-  library_rows items is = ((items, ((libraries_by_kind_are m).strict bytes o p items).1 is, refl), refl)
+  library_rows items is = ((items, ((libraries_by_kind_are m).lossy bytes o p items).1 is, refl), refl)
 
   pub rebase_rows : (items : List (Result Rebase Fault))
       → AreImageRebases (rebase_stream_in (bytes_view m) (commands_view m)) (chained_view m) (ctx_view m).le (pointer_size (ctx_view m).container)
       (segments_view m) items → HasRows words.Rebases bytes o (fields_read rebase_row_fields items) 0
-  rebase_rows items is = ((items, ((rebases_are m).strict bytes o p items).1 is, refl), refl)
+  rebase_rows items is = ((items, ((rebases_are m).lossy bytes o p items).1 is, refl), refl)
 
   pub weak_rows : (items : List (Result WeakBind Fault))
       → AreImageWeakBinds (weak_stream_in (bytes_view m) (commands_view m)) (pointer_size (ctx_view m).container) (segments_view m) items
       → HasRows words.Weak bytes o (fields_read weak_row_fields items) 0
-  weak_rows items is = ((items, ((weak_binds_are m).strict bytes o p items).1 is, refl), refl)
+  weak_rows items is = ((items, ((weak_binds_are m).lossy bytes o p items).1 is, refl), refl)
 
   pub segment_rows : (rows : List (Result (List FieldView) Fault)) → rows ≡ segment_rows_from 0 (segments_view m) → HasRows words.Segments bytes o rows 0
   segment_rows rows is = (of_parts (λ f. rows ≡ segment_rows_from 0 f.segments) is, refl)
@@ -141,7 +146,7 @@ module _ {A : Type 0} (m : MachO A) (bytes : List ℕ) (o : ℕ) (p : IsImage by
   entry_rows row is =
       let point : EntryPoint = record { address = m.entry; old_style = m.old_style_entry } in (
         point,
-        ((entry_point_is m).strict bytes o p point).1 refl,
+        ((entry_point_is m).lossy bytes o p point).1 refl,
         of_parts (λ f. (seen : Option EntryView) × IsEntryRow m.entry f seen × (one_row entry_part_fields row ≡ one_row entry_part_fields seen))
             (row, is, refl),
         refl,
@@ -174,6 +179,23 @@ module _ {A : Type 0} (m : MachO A) (bytes : List ℕ) (o : ℕ) (p : IsImage by
       (λ f. (fields_read relocation_row_fields items ≡ fields_read relocation_row_fields (image_relocations f)) × (past ≡ image_relocations_past f))
       (ap (fields_read relocation_row_fields) is, is_past)
 
+  pub string_rows_are : (items : List (Result StringRowView Fault)) → items ≡ image_strings (facts_view m)
+      → HasRows words.Strings bytes o (fields_read string_fields items) 0
+  string_rows_are items is =
+      (of_parts (λ f. fields_read string_fields items ≡ fields_read string_fields (image_strings f)) (ap (fields_read string_fields) is), refl)
+
+  pub init_rows_are : (items : List (Result Initializer Fault)) → (found : Result (List (Result Initializer Fault)) Fault)
+      × AreImageInitializers (ctx_view m) (bytes_view m) (chained_view m) (segments_view m) found × (items ≡ listed_or_fault found)
+      → HasRows words.Inits bytes o (fields_read init_fields items) 0
+  init_rows_are items has = ((items, (has.0, ((initializers_are m).lossy bytes o p has.0).1 has.1, has.2), refl), refl)
+
+  pub byte_rows_are : (name : SectionName) (items : List (Result (ℕ × List ℕ) Fault)) → items ≡ listed_bytes (bytes_held name (facts_view m))
+      → HasRows (words.Bytes name) bytes o (fields_read byte_row_fields items) 0
+  byte_rows_are name items is = (
+    of_parts (λ f. fields_read byte_row_fields items ≡ fields_read byte_row_fields (listed_bytes (bytes_held name f))) (ap (fields_read byte_row_fields) is),
+    refl,
+  )
+
   pub import_fields_are : (parts : List SegmentStretches) (segments : List SegmentView) → HasSegments bytes o segments
       → parts ≡ parts_of (length bytes) segments → (items : List (Result Binding Fault))
       → AreImageBindings (binds_view m) (chained_view m) (pointer_size (ctx_view m).container) (texts m.libs.items) (segments_view m) items
@@ -182,6 +204,6 @@ module _ {A : Type 0} (m : MachO A) (bytes : List ℕ) (o : ℕ) (p : IsImage by
     segments = segments;
     has_segments = subst (λ (k : ℕ). HasSegments bytes k segments) start has;
     items = items;
-    has_items = subst (λ (k : ℕ). HasBindings bytes k items) start (((bindings_are m).strict bytes o p items).1 is);
+    has_items = subst (λ (k : ℕ). HasBindings bytes k items) start (((bindings_are m).lossy bytes o p items).1 is);
     shown = ap (λ (known : List SegmentStretches). fields_of_imports known items) are;
   }

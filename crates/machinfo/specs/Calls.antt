@@ -1,5 +1,6 @@
 -- What a call shows.
-use Rattle.std.specs.Prelude.{◌≡◌, ℕ, List, Option, Some, codes, option_map, true}
+use Rattle.std.specs.Prelude.{◌≡◌, ◌-◌, ℕ, List, Option, Some, codes, length, option_map, true}
+use Rattle.std.specs.List.{slice_get}
 use Rattle.std.specs.Borrow.{Bor}
 use Rattle.std.specs.declared.io.buffered.BufWriter.{BufWriter}
 use Rattle.mach_cli.specs.Bounds.{limit_of}
@@ -20,6 +21,7 @@ use Rattle.machinfo.specs.declared.word.Choice.{Choice}
 pub record AreInfoFiles {A : Type 0} (call : Call A InfoOptions) (choice : Option Choice) (s : ImageFiles InfoLines InfoObjects) : Type 0 where
   pub program : s.program.name.now ≡ codes "machinfo"
   pub cpu : s.cpu ≡ call.cpu
+  pub lossy : s.is_lossy ≡ call.is_lossy
   pub limit : s.limit ≡ limit_of call.limit 10000000
   pub form : s.is_json ≡ is_json call.format
   pub titles : s.has_titles ≡ true
@@ -27,11 +29,15 @@ pub record AreInfoFiles {A : Type 0} (call : Call A InfoOptions) (choice : Optio
   pub headings : call.own.has_headings ≡ true → s.lines.has_headings ≡ true
   pub objects : s.objects ≡ record { choice = choice }
 
+-- the last address after `--at`
+abbrev pub last_address : {A O : Type 0} → Call A O → Option ℕ
+last_address call = slice_get call.addresses.items (length call.addresses.items - 1)
+
 -- A call shows what its arguments select, of their files and of those that it names in other ways, as lines.
 abbrev pub ShowsInfoLines : {W A B : Type 0} → (contents : W → Option (List ℕ)) → Call A InfoOptions → (old new : BufWriter (Titled W) B)
     → (worst : ℕ) → Type 0
 ShowsInfoLines contents call old new worst =
-    (choice : Option Choice) × (files : List (Bor (List ℕ))) × (selected call.address call.words.items ≡ Some (choice, files))
+    (choice : Option Choice) × (files : List (Bor (List ℕ))) × (selected (last_address call) call.words.items ≡ Some (choice, files))
     × (s : ImageFiles InfoLines InfoObjects) × AreInfoFiles call choice s
     × ShowsText s s.program.name.now (AreInfoLines s.lines.has_headings s.lines.choice) contents files call.others old new worst
 
@@ -39,6 +45,6 @@ ShowsInfoLines contents call old new worst =
 abbrev pub ShowsInfoObjects : {W A B : Type 0} → (contents : W → Option (List ℕ)) → Call A InfoOptions → (old new : BufWriter (Titled W) B)
     → (worst : ℕ) → Type 0
 ShowsInfoObjects contents call old new worst =
-    (choice : Option Choice) × (files : List (Bor (List ℕ))) × (selected call.address call.words.items ≡ Some (choice, files))
+    (choice : Option Choice) × (files : List (Bor (List ℕ))) × (selected (last_address call) call.words.items ≡ Some (choice, files))
     × (s : ImageFiles InfoLines InfoObjects) × AreInfoFiles call choice s
     × ShowsJson s s.program.name.now (AreInfoMembers s.objects.choice) contents files call.others old new worst

@@ -28,6 +28,9 @@ heading_of words.Header = codes "CPU KIND FLAGS  FIELDS"
 heading_of words.Security = codes "VERDICT                IS  MEANING"
 heading_of words.SecurityExplained = codes "VERDICT                IS  MEANING"
 heading_of words.Relocations = codes "SEGMENT      SECTION          ADDRESS  TYPE                    TARGET PCREL SIZE"
+heading_of words.Strings = codes "ADDRESS     SECTION          STRING"
+heading_of words.Inits = codes "ADDRESS     SECTION          TARGET"
+heading_of (words.Bytes name) = codes "ADDRESS     BYTES                            TEXT"
 
 -- the headings of exports, and of what dyld binds
 abbrev pub exports_heading : List ℕ

@@ -2,7 +2,7 @@
 use Rattle.std.specs.Prelude.{◌≡◌, ◌==◌, ◌&&◌, ℕ, List, [], ◌∷◌, ◌++◌, map, Bool, false, Option, Some, None, Result, codes}
 use Rattle.std.specs.Fmt.{decimal}
 use Rattle.mach_base.specs.Fault.{Fault}
-use Rattle.goblin_mach.specs.Image.{Opens}
+use Rattle.goblin_mach.specs.Image.{LossyOpens}
 use Rattle.goblin_mach.specs.ImageFacts.{Facts, HasFacts}
 use Rattle.mach_cli.specs.AddressLines.{AreAddressLines}
 use Rattle.mach_cli.specs.AddressObjects.{AreAddressMembers}
@@ -35,7 +35,7 @@ use Rattle.machinfo.specs.declared.counts.Form.TheVariants.{Lines, Members}
 -- left of the limit; and a last line if there are more, or more are claimed past the end of the bytes. It is whole if there are
 -- no more, and each row can be read. Of the limit `rest` are left after it.
 pub record AreImageListLines (word : Word) (limit left : ℕ) (bytes : List ℕ) (text : List ℕ) (whole : Bool) (rest : ℕ) : Type 0 where
-  pub opens : Opens bytes 0
+  pub opens : LossyOpens bytes 0
   pub lines : AreRowLines word (lines_form word) (codes "refused") limit left bytes text whole rest
 
 -- The members of a list of items: an array of this name with an object for each, as many as are left of the limit; whether there are
@@ -63,7 +63,7 @@ pub record AreListedMembers (name : List ℕ) (Has : List (Result (List FieldVie
 -- as many as are left of the limit; whether there are more; and how many more are claimed past the end of the bytes. It is whole
 -- if there are no more, and each row can be read. Of the limit `rest` are left after it.
 pub record AreImageListMembers (word : Word) (left : ℕ) (bytes : List ℕ) (text : List ℕ) (whole : Bool) (rest : ℕ) : Type 0 where
-  pub opens : Opens bytes 0
+  pub opens : LossyOpens bytes 0
   pub members : OfRows word bytes (λ rows past. AreItemMembers (spelling_of word) left rows past text whole rest)
 
 -- The text is the summary of the image at the start of the bytes. Its parts are: the first lines; the lines of the entry point, the
@@ -72,7 +72,7 @@ pub record AreImageListMembers (word : Word) (left : ℕ) (bytes : List ℕ) (te
 -- whole if these lines and counts are whole, the signature can be read, and no symbols are claimed past the end of the bytes. It uses
 -- up nothing of the limit.
 pub record AreImageSummaryLines (limit left : ℕ) (bytes : List ℕ) (text : List ℕ) (whole : Bool) (rest : ℕ) : Type 0 where
-  pub opens : Opens bytes 0
+  pub opens : LossyOpens bytes 0
   pub facts : Facts
   pub has_facts : HasFacts bytes 0 facts
   pub front : List ℕ
@@ -103,7 +103,7 @@ counts_end limit = codes "\"limit\":" ++ (decimal limit ++ codes "},\"kind\":\"i
 -- The text is the members of the image at the start of the bytes: some text first, and then how many items each list has, counted
 -- up to the limit. It is whole if what the first text says and the counts are whole. It uses up nothing of the limit.
 pub record AreImageSummaryMembers (limit left : ℕ) (bytes : List ℕ) (text : List ℕ) (whole : Bool) (rest : ℕ) : Type 0 where
-  pub opens : Opens bytes 0
+  pub opens : LossyOpens bytes 0
   pub facts : Facts
   pub has_facts : HasFacts bytes 0 facts
   pub there : Result (Option Directory) Fault
@@ -127,7 +127,7 @@ AreInfoLines has_headings (Some choices.Exports) file limit =
     λ left bytes. AreUnderHeading has_headings exports_heading (AreListedLines (HasExportFields left bytes) limit left)
 AreInfoLines has_headings (Some choices.Imports) file limit =
     λ left bytes. AreUnderHeading has_headings imports_heading (AreListedLines (HasImportFields bytes) limit left)
-AreInfoLines has_headings (Some (choices.At address)) file limit = AreAddressLines address false false file limit
+AreInfoLines has_headings (Some (choices.At address)) file limit = AreAddressLines None (address ∷ []) false false file limit
 AreInfoLines has_headings None file limit = AreImageSummaryLines limit
 
 -- The same as members.
@@ -135,5 +135,5 @@ abbrev pub AreInfoMembers : Option Choice → (file : List ℕ) → (limit : ℕ
 AreInfoMembers (Some (choices.Word word)) file limit = AreImageListMembers word
 AreInfoMembers (Some choices.Exports) file limit = λ left bytes. AreListedMembers (codes "exports") (HasExportFields left bytes) left
 AreInfoMembers (Some choices.Imports) file limit = λ left bytes. AreListedMembers (codes "imports") (HasImportFields bytes) left
-AreInfoMembers (Some (choices.At address)) file limit = AreAddressMembers address file limit
+AreInfoMembers (Some (choices.At address)) file limit = AreAddressMembers None (address ∷ []) file limit
 AreInfoMembers None file limit = AreImageSummaryMembers limit

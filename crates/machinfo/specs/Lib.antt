@@ -16,6 +16,8 @@ pub mod NumberedNotes
 pub mod ProvidedSymbols
 pub mod SectionRows
 pub mod Relocations
+pub mod SectionContents
+pub mod SectionBytes
 pub mod Parts
 pub mod PartFields
 pub mod Lists

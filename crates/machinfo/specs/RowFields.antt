@@ -18,7 +18,7 @@ use Rattle.goblin_mach.specs.declared.libraries.LibraryKind.{LibraryKind}
 use Rattle.goblin_mach.specs.declared.libraries.LibraryKind.TheVariants.{Lazy}
 use Rattle.mach_cli.specs.Fields.{FieldView, number, named, signed, hex, text, version, flag, flags, field_of, line_field}
 use Rattle.mach_cli.specs.Fields.{fields_line, fields_pairs, object_field, optional_text}
-use Rattle.mach_cli.specs.Fields.{whether, wide_field}
+use Rattle.mach_cli.specs.Fields.{whether}
 use Rattle.mach_cli.specs.Signing.{diverse_by, diversity_by, has_auth, key_by, rebase_type}
 use Rattle.machinfo.specs.NumberedNotes.{NumberedNoteView}
 use Rattle.machinfo.specs.OwnNames.{version_columns}

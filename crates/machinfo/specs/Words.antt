@@ -1,10 +1,11 @@
 -- The words that select a list.
-use Rattle.std.specs.Prelude.{◌≡◌, ◌&&◌, ℕ, List, [], ◌∷◌, codes, Bool, true, false, Option, Some, None, option_map, bytes_eq, drop, nat_le, if◌then◌else◌}
+use Rattle.std.specs.Prelude.{◌≡◌, ◌⊎◌, ◌&&◌, ℕ, List, [], ◌∷◌, codes, Bool, true, false, Option, Some, None, option_map, bytes_eq, drop, nat_le, if◌then◌else◌}
 use Rattle.std.specs.Borrow.{Bor}
 use Rattle.std.specs.List.{list_all}
 use Rattle.mach_cli.specs.Calls.{word_address}
 use Rattle.mach_cli.specs.declared.misuse.Misuse.{Misuse}
 use Rattle.mach_cli.specs.declared.misuse.Misuse.TheVariants.{Missing, NoAddress, NoList, UnknownWord}
+use Rattle.machinfo.specs.SectionBytes.{section_name_of}
 use Rattle.machinfo.specs.declared.selection.Selection.{Selection}
 use Rattle.machinfo.specs.declared.word.Choice.{Choice}
 use Rattle.machinfo.specs.declared.word.Choice.TheVariants as choices
@@ -12,7 +13,7 @@ use Rattle.machinfo.specs.declared.word.Word.{Word}
 use Rattle.machinfo.specs.declared.word.Word.TheVariants.{Commands, CommandsAlone, Starts, Slots, Indirect, Data}
 use Rattle.machinfo.specs.declared.word.Word.TheVariants.{Options, Tools, Notes, Providers, Libraries, Rebases}
 use Rattle.machinfo.specs.declared.word.Word.TheVariants.{Id, Weak, Segments, Sections, Uuid, Rpaths, Entry, Header, Security, SecurityExplained}
-use Rattle.machinfo.specs.declared.word.Word.TheVariants.{Relocations}
+use Rattle.machinfo.specs.declared.word.Word.TheVariants.{Relocations, Strings, Inits, Bytes}
 
 -- how a word is spelled
 abbrev pub spelling_of : Word → List ℕ
@@ -39,12 +40,15 @@ spelling_of Header = codes "header"
 spelling_of Security = codes "security"
 spelling_of SecurityExplained = codes "security"
 spelling_of Relocations = codes "relocations"
+spelling_of Strings = codes "strings"
+spelling_of Inits = codes "inits"
+spelling_of (Bytes name) = codes "bytes"
 
 -- the words that a call may have
 abbrev pub list_words : List Word
 list_words =
     Commands ∷ Starts ∷ Slots ∷ Indirect ∷ Data ∷ Options ∷ Tools ∷ Notes ∷ Providers ∷ Libraries ∷ Id ∷ Rebases ∷ Weak ∷ Segments ∷ Sections
-    ∷ Uuid ∷ Rpaths ∷ Entry ∷ Header ∷ Security ∷ Relocations ∷ []
+    ∷ Uuid ∷ Rpaths ∷ Entry ∷ Header ∷ Security ∷ Relocations ∷ Strings ∷ Inits ∷ []
 
 -- the first word with a spelling
 abbrev pub word_among : List Word → List ℕ → Option Word
@@ -94,11 +98,23 @@ abbrev pub selected_after_at : List (Bor (List ℕ)) → Option (Option Choice �
 selected_after_at [] = None
 selected_after_at (word ∷ files) = option_map (λ address. (Some (choices.At address), files)) (word_address word.now)
 
+-- the word for the bytes of a section
+abbrev pub is_word_bytes : List ℕ → Bool
+is_word_bytes text = bytes_eq text (codes "bytes")
+
+-- what two names select, which the first of these arguments are; the others are files
+abbrev pub selected_after_bytes : List (Bor (List ℕ)) → Option (Option Choice × List (Bor (List ℕ)))
+selected_after_bytes [] = None
+selected_after_bytes (segment ∷ []) = None
+selected_after_bytes (segment ∷ section ∷ files) =
+    option_map (λ name. (Some (choices.Word (Bytes name)), files)) (section_name_of segment.now section.now)
+
 -- what arguments without `--at` select
 abbrev pub selected_by_words : List (Bor (List ℕ)) → Option (Option Choice × List (Bor (List ℕ)))
 selected_by_words [] = Some (None, [])
 selected_by_words (first ∷ others) =
-    if is_word_at first.now then selected_after_at others else Some (choice_named first.now, files_named (first ∷ others))
+    if is_word_at first.now then selected_after_at others
+    else (if is_word_bytes first.now then selected_after_bytes others else Some (choice_named first.now, files_named (first ∷ others)))
 
 -- What a call with this address after `--at` selects, with its files. There is nothing if `at` has no address after it.
 abbrev pub selected : (address : Option ℕ) → List (Bor (List ℕ)) → Option (Option Choice × List (Bor (List ℕ)))
@@ -109,6 +125,15 @@ selected None arguments = selected_by_words arguments
 abbrev pub IsNoAddress : List (Bor (List ℕ)) → Misuse → Type 0
 IsNoAddress [] misuse = (what : Bor (List ℕ)) × (what.now ≡ codes "ADDRESS after at") × (misuse ≡ Missing what)
 IsNoAddress (word ∷ files) misuse = (misuse ≡ NoAddress word) × (word_address word.now ≡ None)
+
+-- This is wrong with the arguments after `bytes`: there are less than two, or a name is longer than 16 bytes.
+abbrev pub IsNoSection : List (Bor (List ℕ)) → Misuse → Type 0
+IsNoSection (segment ∷ section ∷ files) misuse = (misuse ≡ UnknownWord section) × (section_name_of segment.now section.now ≡ None)
+IsNoSection _ misuse = (what : Bor (List ℕ)) × (what.now ≡ codes "SEGMENT SECTION after bytes") × (misuse ≡ Missing what)
+
+-- one of these is wrong
+abbrev pub IsNoSelection : List (Bor (List ℕ)) → Misuse → Type 0
+IsNoSelection arguments misuse = IsNoAddress arguments misuse ⊎ IsNoSection arguments misuse
 
 -- a small letter (ASCII)
 abbrev pub is_small_letter : ℕ → Bool

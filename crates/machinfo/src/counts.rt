@@ -2,7 +2,7 @@
 
 ghost use Rattle.std.specs.Prelude.{◌≡◌, ℕ, List, Bool, IfOk, OnOk, Some};
 ghost use Rattle.std.specs.Io.KnownBytes.{Appends};
-ghost use Rattle.goblin_mach.specs.OpenImage.{IsImage};
+ghost use Rattle.goblin_mach.specs.OpenImage.{IsLossyImage};
 ghost use Rattle.machinfo.specs.Counts.{count_members, count_text, count_reported, has_no_rows, past_text, AreCounts, IsCount};
 
 use crate::list::{ListUse, use_list};
@@ -108,7 +108,7 @@ pub fn print_counts<A: Allocator, O: Write>(
     limit: usize,
     out: &mut O,
 ) -> io::Result<bool>
-    ensures { (bytes : List ℕ) → IsImage bytes 0 image.now → IfOk result (λ whole. (text : List ℕ) × AreCounts form limit bytes words.now text whole
+    ensures { (bytes : List ℕ) → IsLossyImage bytes 0 image.now → IfOk result (λ whole. (text : List ℕ) × AreCounts form limit bytes words.now text whole
         × Appends (O.contents out.old) (O.contents out.new) text) }
 {
     let mut whole = true;

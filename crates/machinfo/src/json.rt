@@ -2,7 +2,7 @@
 
 ghost use Rattle.std.specs.Prelude.{ℕ, List, [], codes, IfErr, IfOk, OnOk};
 ghost use Rattle.std.specs.Io.KnownBytes.{Appends};
-ghost use Rattle.goblin_mach.specs.OpenImage.{IsImage};
+ghost use Rattle.goblin_mach.specs.OpenImage.{IsLossyImage};
 ghost use Rattle.mach_cli.specs.Failures.{IfMemory};
 ghost use Rattle.machinfo.specs.ExportRows.{HasExportFields};
 ghost use Rattle.machinfo.specs.Imports.{HasImportFields};
@@ -47,7 +47,11 @@ impl ImageView for InfoObjects {
             Some(Choice::Exports) => write_exports(alloc, image, left, out),
             Some(Choice::Imports) => write_imports(alloc, image, left, out),
             Some(Choice::At(address)) => {
-                AddressObjectsOf { address }.show(alloc, file, image, limit, left, out)
+                let objects = AddressObjectsOf {
+                    addresses: &[address],
+                    load_address: None,
+                };
+                objects.show(alloc, file, image, limit, left, out)
             }
             None => Ok(write_summary(image, limit, left, out)?),
         }
@@ -62,7 +66,7 @@ fn write_rows<A: Allocator, O: Write>(
     left: usize,
     out: &mut O,
 ) -> io::Result<Outcome>
-    ensures { (bytes : List ℕ) → IsImage bytes 0 image.now → IfOk result (λ outcome. (text : List ℕ)
+    ensures { (bytes : List ℕ) → IsLossyImage bytes 0 image.now → IfOk result (λ outcome. (text : List ℕ)
         × AreImageListMembers word left bytes text outcome.whole outcome.left × Appends (O.contents out.old) (O.contents out.new) text) }
 {
     let name = word.name();
@@ -76,7 +80,7 @@ fn write_exports<A: Allocator + Clone, O: Write>(
     left: usize,
     out: &mut O,
 ) -> Result<Outcome, ShowFailure>
-    ensures shown { (bytes : List ℕ) → IsImage bytes 0 image.now → IfOk result (λ outcome. (text : List ℕ)
+    ensures shown { (bytes : List ℕ) → IsLossyImage bytes 0 image.now → IfOk result (λ outcome. (text : List ℕ)
         × AreListedMembers (codes "exports") (HasExportFields left bytes) left text outcome.whole outcome.left
         × Appends (O.contents out.old) (O.contents out.new) text) }
     ensures memory { IfErr result (IfMemory (Appends (O.contents out.old) (O.contents out.new) [])) }
@@ -97,7 +101,7 @@ fn write_imports<A: Allocator + Clone, O: Write>(
     left: usize,
     out: &mut O,
 ) -> Result<Outcome, ShowFailure>
-    ensures shown { (bytes : List ℕ) → IsImage bytes 0 image.now → IfOk result (λ outcome. (text : List ℕ)
+    ensures shown { (bytes : List ℕ) → IsLossyImage bytes 0 image.now → IfOk result (λ outcome. (text : List ℕ)
         × AreListedMembers (codes "imports") (HasImportFields bytes) left text outcome.whole outcome.left
         × Appends (O.contents out.old) (O.contents out.new) text) }
     ensures memory { IfErr result (IfMemory (Appends (O.contents out.old) (O.contents out.new) [])) }
@@ -160,7 +164,7 @@ fn write_summary<A: Allocator, O: Write>(
     left: usize,
     out: &mut O,
 ) -> io::Result<Outcome>
-    ensures { (bytes : List ℕ) → IsImage bytes 0 image.now → IfOk result (λ outcome. (text : List ℕ)
+    ensures { (bytes : List ℕ) → IsLossyImage bytes 0 image.now → IfOk result (λ outcome. (text : List ℕ)
         × AreImageSummaryMembers limit left bytes text outcome.whole outcome.left × Appends (O.contents out.old) (O.contents out.new) text) }
 {
     let front = write_front(image, limit, out)?;

@@ -5,11 +5,12 @@ ghost use Rattle.std.specs.Io.KnownBytes.{Appends};
 ghost use Rattle.mach_base.specs.Items.{items_in_bounds};
 ghost use Rattle.mach_load.specs.TablesLeft.{data_in_code_left};
 ghost use Rattle.mach_parts.specs.SlotViews.{indirect_left};
-ghost use Rattle.goblin_mach.specs.OpenImage.{IsImage};
+ghost use Rattle.goblin_mach.specs.OpenImage.{IsLossyImage};
 ghost use Rattle.machinfo.specs.Lists.{OfRows};
 
 use crate::command_rows::CommandRows;
 use crate::commands::NumberedCommands;
+use crate::initializers::InitRows;
 use crate::lists::{
     BuildTools, DataInCode, FunctionStarts, IndirectSymbols, Libraries, LinkerOptions, Rebases,
     Slots, WeakBinds,
@@ -19,7 +20,9 @@ use crate::own_names::OwnNames;
 use crate::parts::{EntryPoint, NumberedPaths, NumberedSegments, OneHeader, UuidRows};
 use crate::providers::ProvidedSymbols;
 use crate::relocations::RelocationRows;
+use crate::section_bytes::ByteRows;
 use crate::sections::CountedSections;
+use crate::strings::StringRows;
 use crate::verdicts::{ExplainedFindings, HardeningFindings};
 use crate::word::Word;
 use goblin_mach::slots::IndirectSymbolIterator;
@@ -79,7 +82,7 @@ pub fn use_list<U: ListUse, A: Allocator, O: Write>(
     image: &MachO<'_, A>,
     out: &mut O,
 ) -> io::Result<Outcome>
-    ensures { (bytes : List ℕ) → IsImage bytes 0 image.now → IfOk result (λ outcome. (text : List ℕ)
+    ensures { (bytes : List ℕ) → IsLossyImage bytes 0 image.now → IfOk result (λ outcome. (text : List ℕ)
         × OfRows word bytes (λ rows past. U.writes how.now rows past text outcome)
         × Appends (O.contents out.old) (O.contents out.new) text) }
 {
@@ -122,5 +125,8 @@ pub fn use_list<U: ListUse, A: Allocator, O: Write>(
             let (list, past) = RelocationRows::of(image);
             how.of_list(list, past, out)
         }
+        Word::Strings => how.of_list(StringRows::of(image), 0, out),
+        Word::Inits => how.of_list(InitRows::of(image), 0, out),
+        Word::Bytes(name) => how.of_list(ByteRows::of(image, &name), 0, out),
     }
 }

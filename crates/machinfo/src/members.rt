@@ -3,7 +3,7 @@
 ghost use Rattle.std.specs.Prelude.{◌≡◌, ℕ, List, IfOk, OnOk};
 ghost use Rattle.std.specs.Io.KnownBytes.{Appends};
 ghost use Rattle.goblin_mach.specs.ImageFacts.{facts_view};
-ghost use Rattle.goblin_mach.specs.OpenImage.{IsImage, bytes_view, commands_view};
+ghost use Rattle.goblin_mach.specs.OpenImage.{IsLossyImage, bytes_view, commands_view};
 ghost use Rattle.mach_audit.specs.FactRows.{fact_rows_left};
 ghost use Rattle.mach_cli.specs.Listings.{CountsRows};
 ghost use Rattle.mach_parts.specs.HeaderNames.{flag_name};
@@ -44,7 +44,7 @@ pub fn write_front<A: Allocator, O: Write>(
     out: &mut O,
 ) -> io::Result<bool>
     ensures written { OnOk result (WritesSome (O.contents out.old) (O.contents out.new)) }
-    ensures status { (bytes : List ℕ) → IsImage bytes 0 image.now → IfOk result (IsFrontWhole limit bytes (facts_view image.now)
+    ensures status { (bytes : List ℕ) → IsLossyImage bytes 0 image.now → IfOk result (IsFrontWhole limit bytes (facts_view image.now)
         (image_directory (bytes_view image.now) (commands_view image.now))) }
 {
     write_header(&image.header, image.name, image.base(), image.entry, out)?;
@@ -65,7 +65,7 @@ fn write_entry<A: Allocator, O: Write>(
     out: &mut O,
 ) -> io::Result<ListProgress>
     ensures written { OnOk result (WritesSome (O.contents out.old) (O.contents out.new)) }
-    ensures status { (bytes : List ℕ) → IsImage bytes 0 image.now → IfOk result (λ t. (rows : _) × (past : ℕ)
+    ensures status { (bytes : List ℕ) → IsLossyImage bytes 0 image.now → IfOk result (λ t. (rows : _) × (past : ℕ)
         × HasRows words.Entry bytes 0 rows past × (t.whole ≡ is_entry_read rows)) }
 {
     let mut list = InForm {

@@ -2,7 +2,7 @@
 
 ghost use Rattle.std.specs.Prelude.{ℕ, List, codes, IfOk};
 ghost use Rattle.std.specs.Io.KnownBytes.{Appends};
-ghost use Rattle.goblin_mach.specs.OpenImage.{IsImage};
+ghost use Rattle.goblin_mach.specs.OpenImage.{IsLossyImage};
 ghost use Rattle.machinfo.specs.PartLines.{line_after, AreLinesOfParts, ArePartLines};
 
 use crate::list::use_list;
@@ -92,7 +92,7 @@ pub fn print_parts<A: Allocator, O: Write>(
     limit: usize,
     out: &mut O,
 ) -> io::Result<bool>
-    ensures { (bytes : List ℕ) → IsImage bytes 0 image.now → IfOk result (λ whole. (text : List ℕ) × AreLinesOfParts limit bytes text whole
+    ensures { (bytes : List ℕ) → IsLossyImage bytes 0 image.now → IfOk result (λ whole. (text : List ℕ) × AreLinesOfParts limit bytes text whole
         × Appends (O.contents out.old) (O.contents out.new) text) }
 {
     let entry = print_after(Entry, "entry: refused", Word::Entry, image, 1, out)?;
@@ -124,7 +124,8 @@ fn print_after<L: Label + Copy + Drop, A: Allocator, O: Write>(
     limit: usize,
     out: &mut O,
 ) -> io::Result<bool>
-    ensures { (bytes : List ℕ) → IsImage bytes 0 image.now → IfOk result (λ whole. (text : List ℕ) × ArePartLines word L.word refused.now limit bytes text whole
+    ensures { (bytes : List ℕ) → IsLossyImage bytes 0 image.now → IfOk result (λ whole. (text : List ℕ)
+        × ArePartLines word L.word refused.now limit bytes text whole
         × Appends (O.contents out.old) (O.contents out.new) text) }
 {
     let lines = Lines {

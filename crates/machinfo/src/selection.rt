@@ -6,7 +6,8 @@ ghost use Rattle.std.specs.Result.{result_ok};
 ghost use Rattle.mach_dyld.specs.Exports.{text_in};
 ghost use Rattle.machinfo.specs.Words as words;
 
-use crate::word::Choice;
+use crate::section_bytes::SectionName;
+use crate::word::{Choice, Word};
 use mach_cli::{Misuse, address_in};
 
 /// What a call selects, and the files that its arguments name.
@@ -24,7 +25,7 @@ pub fn selection_of<'a, 'b>(
     arguments: &'a [&'b str],
 ) -> Result<Selection<'a, 'b>, Misuse<'b>>
     ensures selected { option_map words.selection_view (result_ok result) ≡ words.selected address arguments.now }
-    ensures misuse { IfErr result (words.IsNoAddress (drop 1 arguments.now)) }
+    ensures misuse { IfErr result (words.IsNoSelection (drop 1 arguments.now)) }
 {
     match (address, arguments) {
         (Some(address), _) => Ok(Selection {
@@ -32,6 +33,7 @@ pub fn selection_of<'a, 'b>(
             files: arguments,
         }),
         (None, [first, others @ ..]) if is_at(first) => selection_at(others),
+        (None, [first, others @ ..]) if is_bytes(first) => selection_of_bytes(others),
         _ => Ok(Selection {
             choice: selected_by(arguments),
             files: files_named(arguments),
@@ -60,6 +62,30 @@ fn selection_at<'a, 'b>(arguments: &'a [&'b str]) -> Result<Selection<'a, 'b>, M
             files,
         }),
         None => Err(Misuse::NoAddress(word)),
+    }
+}
+
+// Whether an argument is `bytes`.
+fn is_bytes(argument: &str) -> bool
+    ensures { result ≡ words.is_word_bytes argument.now }
+{
+    argument == "bytes"
+}
+
+// Returns what the arguments after `bytes` select: the section that the first two name.
+fn selection_of_bytes<'a, 'b>(arguments: &'a [&'b str]) -> Result<Selection<'a, 'b>, Misuse<'b>>
+    ensures selected { option_map words.selection_view (result_ok result) ≡ words.selected_after_bytes arguments.now }
+    ensures misuse { IfErr result (words.IsNoSection arguments.now) }
+{
+    let [segment, section, files @ ..] = arguments else {
+        return Err(Misuse::Missing("SEGMENT SECTION after bytes"));
+    };
+    match SectionName::of(segment, section) {
+        Some(name) => Ok(Selection {
+            choice: Some(Choice::Word(Word::Bytes(name))),
+            files,
+        }),
+        None => Err(Misuse::UnknownWord(section)),
     }
 }
 

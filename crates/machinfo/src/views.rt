@@ -2,7 +2,7 @@
 
 ghost use Rattle.std.specs.Prelude.{◌≡◌, ℕ, List, [], IfErr, IfOk, OnOk};
 ghost use Rattle.std.specs.Io.KnownBytes.{Appends};
-ghost use Rattle.goblin_mach.specs.OpenImage.{IsImage};
+ghost use Rattle.goblin_mach.specs.OpenImage.{IsLossyImage};
 ghost use Rattle.mach_cli.specs.Failures.{IfMemory};
 ghost use Rattle.machinfo.specs.ExportRows.{HasExportFields};
 ghost use Rattle.machinfo.specs.Imports.{HasImportFields};
@@ -59,7 +59,8 @@ impl ImageView for InfoLines {
             Some(Choice::Imports) => print_imports(alloc, has_headings, image, limit, left, out),
             Some(Choice::At(address)) => {
                 let line = AddressLinesOf {
-                    address,
+                    addresses: &[address],
+                    load_address: None,
                     has_file: false,
                     is_raw: false,
                 };
@@ -89,7 +90,7 @@ fn print_list<A: Allocator, O: Write>(
     left: usize,
     out: &mut O,
 ) -> io::Result<Outcome>
-    ensures { (bytes : List ℕ) → IsImage bytes 0 image.now → IfOk result (λ outcome. (text : List ℕ)
+    ensures { (bytes : List ℕ) → IsLossyImage bytes 0 image.now → IfOk result (λ outcome. (text : List ℕ)
         × AreImageListLines word limit left bytes text outcome.whole outcome.left × Appends (O.contents out.old) (O.contents out.new) text) }
 {
     let (refused, past_name) = ("refused", word.past_name());
@@ -123,7 +124,7 @@ fn print_exports<A: Allocator + Clone, O: Write>(
     left: usize,
     out: &mut O,
 ) -> Result<Outcome, ShowFailure>
-    ensures shown { (bytes : List ℕ) → IsImage bytes 0 image.now → IfOk result (λ outcome. (text : List ℕ)
+    ensures shown { (bytes : List ℕ) → IsLossyImage bytes 0 image.now → IfOk result (λ outcome. (text : List ℕ)
         × AreUnderHeading has_headings exports_heading (AreListedLines (HasExportFields left bytes) limit left) text outcome.whole outcome.left
         × Appends (O.contents out.old) (O.contents out.new) text) }
     ensures memory { IfErr result (IfMemory (Appends (O.contents out.old) (O.contents out.new) [])) }
@@ -147,7 +148,7 @@ fn print_imports<A: Allocator + Clone, O: Write>(
     left: usize,
     out: &mut O,
 ) -> Result<Outcome, ShowFailure>
-    ensures shown { (bytes : List ℕ) → IsImage bytes 0 image.now → IfOk result (λ outcome. (text : List ℕ)
+    ensures shown { (bytes : List ℕ) → IsLossyImage bytes 0 image.now → IfOk result (λ outcome. (text : List ℕ)
         × AreUnderHeading has_headings imports_heading (AreListedLines (HasImportFields bytes) limit left) text outcome.whole outcome.left
         × Appends (O.contents out.old) (O.contents out.new) text) }
     ensures memory { IfErr result (IfMemory (Appends (O.contents out.old) (O.contents out.new) [])) }
@@ -186,7 +187,7 @@ fn print_summary<A: Allocator, O: Write>(
     left: usize,
     out: &mut O,
 ) -> io::Result<Outcome>
-    ensures { (bytes : List ℕ) → IsImage bytes 0 image.now → IfOk result (λ outcome. (text : List ℕ)
+    ensures { (bytes : List ℕ) → IsLossyImage bytes 0 image.now → IfOk result (λ outcome. (text : List ℕ)
         × AreImageSummaryLines limit left bytes text outcome.whole outcome.left × Appends (O.contents out.old) (O.contents out.new) text) }
 {
     let front = print_front(image, limit, out)?;

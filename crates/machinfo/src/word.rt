@@ -5,6 +5,8 @@ ghost use Rattle.machinfo.specs.Lists.{past_name};
 ghost use Rattle.machinfo.specs.Headings.{heading_of};
 ghost use Rattle.machinfo.specs.Words.{choice_named, explained_choice, explained_word, spelling_of, word_named};
 
+use crate::section_bytes::SectionName;
+
 /// What a call shows of an image in place of its summary.
 #[derive(Clone, Copy, PartialEq)]
 pub enum Choice {
@@ -67,6 +69,12 @@ pub enum Word {
     SecurityExplained,
     /// The relocations of its sections.
     Relocations,
+    /// The strings of its sections.
+    Strings,
+    /// The functions that dyld calls before its main function.
+    Inits,
+    /// The bytes of its first section with these names.
+    Bytes(SectionName),
 }
 
 impl Choice {
@@ -120,6 +128,8 @@ impl Word {
             "header" => Some(Word::Header),
             "security" => Some(Word::Security),
             "relocations" => Some(Word::Relocations),
+            "strings" => Some(Word::Strings),
+            "inits" => Some(Word::Inits),
             _ => None,
         }
     }
@@ -152,6 +162,9 @@ impl Word {
             Word::Security => "security",
             Word::SecurityExplained => "security",
             Word::Relocations => "relocations",
+            Word::Strings => "strings",
+            Word::Inits => "inits",
+            Word::Bytes(_) => "bytes",
         }
     }
 
@@ -186,6 +199,9 @@ impl Word {
             Word::SecurityExplained => "VERDICT                IS  MEANING",
             Word::Relocations =>
                 "SEGMENT      SECTION          ADDRESS  TYPE                    TARGET PCREL SIZE",
+            Word::Strings => "ADDRESS     SECTION          STRING",
+            Word::Inits => "ADDRESS     SECTION          TARGET",
+            Word::Bytes(_) => "ADDRESS     BYTES                            TEXT",
         }
     }
 

@@ -22,6 +22,7 @@ use Rattle.machsign.specs.declared.signature_view.SignatureLines.{SignatureLines
 pub record AreSignatureFiles {A : Type 0} (call : Call A Entitlements) (s : ImageFiles SignatureLines SignatureObjects) : Type 0 where
   pub program : s.program.name.now ≡ codes "machsign"
   pub cpu : s.cpu ≡ call.cpu
+  pub lossy : s.is_lossy ≡ call.is_lossy
   pub limit : s.limit ≡ limit_of call.limit (2 ^ 64 - 1)
   pub form : s.is_json ≡ is_json call.format
   pub titles : s.has_titles ≡ true

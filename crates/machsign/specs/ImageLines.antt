@@ -5,7 +5,7 @@ use Rattle.mach_base.specs.Fault.{Fault}
 use Rattle.mach_load.specs.Command.{Command}
 use Rattle.mach_parts.specs.Segment.{SegmentView}
 use Rattle.goblin_mach.specs.Facts.{OfImage}
-use Rattle.goblin_mach.specs.Image.{Opens}
+use Rattle.goblin_mach.specs.Image.{LossyOpens}
 use Rattle.goblin_mach.specs.Subjects.{lossy_segments_in}
 use Rattle.mach_signature.specs.AsSigned.{SignedImage, signature_in}
 use Rattle.mach_signature.specs.SignedFacts.{HoldsAsSigned}
@@ -42,7 +42,7 @@ is_there_sound (Err f) = true
 -- The text is the lines of the signature of the image at the start of the bytes. It is whole exactly if the image is as it was
 -- signed, all is printed, its entitlements in XML and in DER say the same, if it has both, and its requirements can be read.
 pub record AreImageSignatureLines (limit left : ℕ) (bytes text : List ℕ) (whole : Bool) (rest : ℕ) : Type 0 where
-  pub opens : Opens bytes 0
+  pub opens : LossyOpens bytes 0
   pub there : Result (Option SignedImage) Fault
   pub segments : List SegmentView
   pub has_signed : HasSigned bytes 0 segments there

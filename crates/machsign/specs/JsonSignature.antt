@@ -6,7 +6,7 @@ use Rattle.mach_base.specs.Fault.{Fault, fault_of}
 use Rattle.mach_base.specs.Items.{read_as}
 use Rattle.mach_base.specs.Words.{words_of}
 use Rattle.mach_base.specs.declared.error.Error.{Error}
-use Rattle.goblin_mach.specs.Image.{Opens}
+use Rattle.goblin_mach.specs.Image.{LossyOpens}
 use Rattle.mach_cli.specs.JsonArrays.{error_end}
 use Rattle.mach_cli.specs.JsonText.{json_bool}
 use Rattle.mach_cli.specs.SignatureNames.{bytes_text}
@@ -169,7 +169,7 @@ pub record WritesSignatureMembers (left : ℕ) (segments : List SegmentView) (th
 -- The text is the members of the image at the start of the bytes. It is whole exactly if the image is as it was signed, all is
 -- written, its entitlements in XML and in DER say the same, if it has both, and its requirements can be read.
 pub record AreImageSignatureMembers (left : ℕ) (bytes text : List ℕ) (whole : Bool) (rest : ℕ) : Type 0 where
-  pub opens : Opens bytes 0
+  pub opens : LossyOpens bytes 0
   pub there : Result (Option SignedImage) Fault
   pub segments : List SegmentView
   pub has_signed : HasSigned bytes 0 segments there

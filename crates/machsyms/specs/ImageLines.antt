@@ -4,7 +4,7 @@ use Rattle.std.specs.Borrow.{Bor}
 use Rattle.mach_base.specs.declared.context.Container.TheVariants.{Big}
 use Rattle.mach_parts.specs.Symbols.{SymbolTable, table_in_bounds}
 use Rattle.goblin_mach.specs.ImageFacts.{Facts, HasFacts}
-use Rattle.goblin_mach.specs.Image.{Opens}
+use Rattle.goblin_mach.specs.Image.{LossyOpens}
 use Rattle.mach_cli.specs.Listings.{AreFirstLines}
 use Rattle.machsyms.specs.LetterWords.{selected_of}
 use Rattle.machsyms.specs.Lines.{selected_lines, past_the_end, symbols_over, unreadable_word}
@@ -26,7 +26,7 @@ AreImageKeys (Some sorting) (Some t) keys = AreKeysInOrder sorting (table_in_bou
 -- limit. A line follows if there are more, and one for all symbols whose records don't begin within the bytes. It is whole if
 -- there are none of these, no more than are left, and none that can't be read. Of the limit `rest` are left after it.
 pub record AreImageSymbolLines (a : Request) (limit left : ℕ) (bytes : List ℕ) (text : List ℕ) (whole : Bool) (rest : ℕ) : Type 0 where
-  pub opens : Opens bytes 0
+  pub opens : LossyOpens bytes 0
   pub facts : Facts
   pub has_facts : HasFacts bytes 0 facts
   pub is_64 : Bool

@@ -7,7 +7,7 @@ use Rattle.std.specs.List.{filter}
 use Rattle.mach_base.specs.Fault.{Fault}
 use Rattle.mach_parts.specs.declared.symbols.nlist.Nlist.{Nlist}
 use Rattle.goblin_mach.specs.ImageFacts.{Facts, HasFacts}
-use Rattle.goblin_mach.specs.Image.{Opens}
+use Rattle.goblin_mach.specs.Image.{LossyOpens}
 use Rattle.mach_cli.specs.Listings.{reported_by}
 use Rattle.mach_cli.specs.JsonArrays.{AreMembersInBounds, NamedRows}
 use Rattle.mach_cli.specs.JsonText.{json_string}
@@ -54,7 +54,7 @@ pub record WritesSymbolMembers (left : ℕ) (lists : List NamedRows) (past : ℕ
 -- are more; and how many symbols' records don't begin there. It is whole if there are none of these, no more than are left, and
 -- none that can't be read. Of the limit `rest` are left after it.
 pub record AreImageSymbolMembers (a : Request) (left : ℕ) (bytes : List ℕ) (text : List ℕ) (whole : Bool) (rest : ℕ) : Type 0 where
-  pub opens : Opens bytes 0
+  pub opens : LossyOpens bytes 0
   pub facts : Facts
   pub has_facts : HasFacts bytes 0 facts
   pub keys : List SortKey

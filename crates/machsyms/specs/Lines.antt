@@ -4,7 +4,6 @@ use Rattle.std.specs.Prelude.{if◌then◌else◌}
 use Rattle.std.specs.Char.{encode_utf8}
 use Rattle.std.specs.Fmt.{digits, padded, padded_integral, format_spec}
 use Rattle.std.specs.List.{filter}
-use Rattle.std.specs.Borrow.{Bor}
 use Rattle.mach_base.specs.Fault.{Fault}
 use Rattle.mach_parts.specs.Symbols.{SymbolTable, table_in_bounds, is_stab}
 use Rattle.mach_parts.specs.declared.symbols.nlist.Nlist.{Nlist}

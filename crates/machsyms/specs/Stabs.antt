@@ -1,5 +1,5 @@
 -- The names that `nm` prints for debugging entries (`mach-o/stab.h`).
-use Rattle.std.specs.Prelude.{◌==◌, ℕ, List, [], ◌∷◌, codes, Option, Some, None, if◌then◌else◌}
+use Rattle.std.specs.Prelude.{ℕ, List, [], ◌∷◌, codes, Option}
 use Rattle.mach_base.specs.Named.{Named, name_among}
 
 abbrev pub stab_names : List Named

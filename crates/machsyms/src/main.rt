@@ -2,7 +2,7 @@
 //! are sorted by name, without debugging entries; with `-ap` it prints all in table order. Of a fat file it prints those of each
 //! entry, or of the entries for one cpu, under the heading that `llvm-nm` has. Options of `nm` select other symbols, another order,
 //! or another form of lines. With `--json` it writes one object for each file instead, on a line. With `--at` it prints what each
-//! image has at an address: the section, the nearest symbol and the function.
+//! image has at addresses: the section, the nearest symbol and the function of each.
 //!
 //! Its lines differ from those of `llvm-nm`:
 //! - A symbol whose record or name can't be read has a line with the error, after all others if they are sorted. `llvm-nm` prints
@@ -16,10 +16,10 @@
 //! - Files that `llvm-nm` refuses as malformed are printed if the library opens them.
 #![tactic(auto)]
 
-ghost use Rattle.std.specs.Prelude.{◌≡◌, None, false, true, IfOk, IfSome};
+ghost use Rattle.std.specs.Prelude.{◌≡◌, false, true, IfOk};
 ghost use Rattle.mach_cli.specs.AddressLines.{AreAddressLines};
 ghost use Rattle.mach_cli.specs.AddressObjects.{AreAddressMembers};
-ghost use Rattle.mach_cli.specs.Calls.{is_json};
+ghost use Rattle.mach_cli.specs.Calls.{has_at, is_json};
 ghost use Rattle.mach_cli.specs.ShownCalls.{ShowsJson, ShowsNm};
 ghost use Rattle.machsyms.specs.Calls.{AreAddressFiles, AreSymbolFiles, ShowsLinesAt, ShowsObjectsAt, ShowsSymbolLines, ShowsSymbolObjects};
 ghost use Rattle.machsyms.specs.ImageLines.{AreSelectedLines};
@@ -60,16 +60,17 @@ const PROGRAM: Program = Program {
 same options. By default it sorts by name and shows no debugging symbols.
 ",
     usage: "usage: machsyms [-AUagjmnoprux] [--raw] [--json] [--limit N]
-                [--arch NAME | --cputype 0xN] [--names FILE [-0]]
+                [--arch NAME | --cputype 0xN] [--lossy] [--names FILE [-0]]
                 [--color WHEN] FILE..
-       machsyms --at ADDRESS [-A] [--raw] [--json]
-                [--arch NAME | --cputype 0xN] [--names FILE [-0]]
-                [--color WHEN] FILE..
+       machsyms --at ADDRESS [--at ADDRESS].. [--load-address A] [-A]
+                [--raw] [--json] [--arch NAME | --cputype 0xN] [--lossy]
+                [--names FILE [-0]] [--color WHEN] FILE..
        machsyms -h | --help | --version
 ",
     version: "machsyms 0.3.0\n",
     options: Options {
         has_address: true,
+        has_load_address: true,
         ..Options::OF_IMAGES
     },
     words: "",
@@ -87,6 +88,8 @@ same options. By default it sorts by name and shows no debugging symbols.
   -o                        print the file name before each line
       --raw                 print names as they are in the file
       --limit N             print at most N symbols per file
+      --at ADDRESS          print what is at an address; - reads more from stdin
+      --load-address A      the address at which an image's first byte is loaded
 ",
     examples: "  machsyms -gU libz.dylib         what a library defines for others
   machsyms --at 0x100000460 prog  what a program has at an address
@@ -103,36 +106,39 @@ fn main(rt: HostRuntime) -> ExitCode {
 // Runs the program with its words.
 fn start(rt: &HostRuntime) -> Result<u8, u8> {
     let words = PROGRAM.words(rt)?;
-    let call = PROGRAM.call(rt, SymbolOptions::none(), &words)?;
-    show_files(rt, &call)
+    let mut call = PROGRAM.call(rt, SymbolOptions::none(), &words)?;
+    show_files(rt, &mut call)
 }
 
 // Shows the selected symbols of files in order, and returns the worst status.
-fn show_files(rt: &HostRuntime, call: &Call<'_, Global, SymbolOptions>) -> Result<u8, u8> {
+fn show_files(rt: &HostRuntime, call: &mut Call<'_, Global, SymbolOptions>) -> Result<u8, u8> {
     if call.words.is_empty() && call.others.is_empty() {
         return Err(PROGRAM.bad_usage(rt, Misuse::Missing("FILE")));
     }
+    if call.load_address.is_some() && !call.has_at() {
+        return Err(PROGRAM.bad_usage(rt, Misuse::Missing("--at ADDRESS")));
+    }
+    PROGRAM.read_addresses(rt, call)?;
     let mut out = PROGRAM.output(rt, call.color, call.format)?;
     show_call(rt, call, &mut out)
 }
 
-// Shows all files that a call names, by the address or by the letters that it has, and returns the worst status.
+// Shows all files that a call names, by the addresses or by the letters that it has, and returns the worst status.
 fn show_call<W: Write + Drop>(
     rt: &HostRuntime,
     call: &Call<'_, Global, SymbolOptions>,
     out: &mut BufWriter<Titled<W>>,
 ) -> Result<u8, u8>
-    ensures lines { call.now.address ≡ None → is_json call.now.format ≡ false → IfOk result (ShowsSymbolLines W.contents call.now out.old out.new) }
-    ensures objects { call.now.address ≡ None → is_json call.now.format ≡ true → IfOk result (ShowsSymbolObjects W.contents call.now out.old out.new) }
-    ensures lines_at { is_json call.now.format ≡ false → IfSome call.now.address (λ address.
-        IfOk result (ShowsLinesAt W.contents call.now address out.old out.new)) }
-    ensures objects_at { is_json call.now.format ≡ true → IfSome call.now.address (λ address.
-        IfOk result (ShowsObjectsAt W.contents call.now address out.old out.new)) }
+    ensures lines { has_at call.now ≡ false → is_json call.now.format ≡ false → IfOk result (ShowsSymbolLines W.contents call.now out.old out.new) }
+    ensures objects { has_at call.now ≡ false → is_json call.now.format ≡ true → IfOk result (ShowsSymbolObjects W.contents call.now out.old out.new) }
+    ensures lines_at { has_at call.now ≡ true → is_json call.now.format ≡ false → IfOk result (ShowsLinesAt W.contents call.now out.old out.new) }
+    ensures objects_at { has_at call.now ≡ true → is_json call.now.format ≡ true → IfOk result (ShowsObjectsAt W.contents call.now out.old out.new) }
 {
     let (files, others) = (&call.words, &call.others);
-    match call.address {
-        Some(address) => show_at(rt, &shown_at(call, address), files, others, out),
-        None => show(rt, &shown_by(call), files, others, out),
+    if call.has_at() {
+        show_at(rt, &shown_at(call), files, others, out)
+    } else {
+        show(rt, &shown_by(call), files, others, out)
     }
 }
 
@@ -149,29 +155,28 @@ fn shown_by(call: &Call<'_, Global, SymbolOptions>) -> ImageFiles<SymbolLinesOf,
     }
 }
 
-// Returns how a call shows its files by an address: what each image has there, as a line or as an object.
-fn shown_at(
-    call: &Call<'_, Global, SymbolOptions>,
-    address: u64,
-) -> ImageFiles<AddressLinesOf, AddressObjectsOf>
-    ensures { AreAddressFiles call.now address result }
+// Returns how a call shows its files by addresses: what each image has there, as lines or as objects.
+fn shown_at<'t>(
+    call: &'t Call<'_, Global, SymbolOptions>,
+) -> ImageFiles<AddressLinesOf<'t>, AddressObjectsOf<'t>>
+    ensures { AreAddressFiles call.now result }
 {
     let SymbolOptions { letters, is_raw } = call.own;
     let has_file = letters.has_file;
+    let (addresses, load_address) = (call.addresses.as_slice(), call.load_address);
     let lines = AddressLinesOf {
-        address,
+        addresses,
+        load_address,
         has_file,
         is_raw,
     };
+    let arrays = AddressObjectsOf {
+        addresses,
+        load_address,
+    };
     ImageFiles {
         has_titles: !has_file,
-        ..ImageFiles::of(
-            PROGRAM,
-            call,
-            usize::MAX,
-            lines,
-            AddressObjectsOf { address },
-        )
+        ..ImageFiles::of(PROGRAM, call, usize::MAX, lines, arrays)
     }
 }
 
@@ -197,19 +202,20 @@ fn show<W: Write + Drop>(
     }
 }
 
-// Shows what the images of files have at an address, in order, and returns the worst status.
+// Shows what the images of files have at addresses, in order, and returns the worst status.
 fn show_at<W: Write + Drop>(
     rt: &HostRuntime,
-    shown: &ImageFiles<AddressLinesOf, AddressObjectsOf>,
+    shown: &ImageFiles<AddressLinesOf<'_>, AddressObjectsOf<'_>>,
     files: &[&str],
     others: &Others<'_, Global>,
     out: &mut BufWriter<Titled<W>>,
 ) -> Result<u8, u8>
     ensures text { let s = shown.now in s.is_json ≡ false
-        → IfOk result (ShowsNm s s.program.name.now (AreAddressLines s.lines.address s.lines.has_file s.lines.is_raw) W.contents
-        files.now others.now out.old out.new) }
+        → IfOk result (ShowsNm s s.program.name.now (AreAddressLines s.lines.load_address s.lines.addresses.now s.lines.has_file s.lines.is_raw)
+        W.contents files.now others.now out.old out.new) }
     ensures json { let s = shown.now in s.is_json ≡ true
-        → IfOk result (ShowsJson s s.program.name.now (AreAddressMembers s.objects.address) W.contents files.now others.now out.old out.new) }
+        → IfOk result (ShowsJson s s.program.name.now (AreAddressMembers s.objects.load_address s.objects.addresses.now) W.contents
+        files.now others.now out.old out.new) }
 {
     let call = shown.files();
     if shown.is_json {

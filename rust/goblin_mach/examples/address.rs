@@ -11,7 +11,7 @@ fn main() -> Result<(), Box<dyn Error>> {
         let found = FoundAt::look_up(&image, address);
         print!("{address:#x}");
         match &found.section {
-            Some(section) => print!(" {},{}", section.segment_name()?, section.name()?),
+            Some(section) => print!(" {},{}", section.segname()?, section.name()?),
             None => print!(" no section"),
         }
         if let Some(symbol) = &found.symbol {

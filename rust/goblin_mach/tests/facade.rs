@@ -257,7 +257,7 @@ fn data_of_sections() {
         for (numbered, (section, data)) in image.sections().zip(listed) {
             let numbered = numbered.unwrap();
             assert_eq!(numbered.name().unwrap(), section.name().unwrap());
-            assert_eq!(numbered.segment_name().unwrap(), section.segname().unwrap());
+            assert_eq!(numbered.segname().unwrap(), section.segname().unwrap());
             let found = image.section_data(&numbered);
             assert!(
                 found.as_ref().is_ok_and(
@@ -283,13 +283,13 @@ fn data_of_sections_by_their_flags() {
     found.section.flags = 0;
     (found.section.offset, found.section.size) = (8, 32);
     assert_eq!(
-        found.data(&bytes).unwrap().as_ptr_range(),
+        found.data_in(&bytes).unwrap().as_ptr_range(),
         bytes[8..].as_ptr_range()
     );
-    assert!(matches!(found.data(&bytes[..39]), Err(Error::Scroll(_))));
+    assert!(matches!(found.data_in(&bytes[..39]), Err(Error::Scroll(_))));
     for zeros in [0x1, 0xc, 0x12] {
         found.section.flags = 0x8000_0000 | zeros;
-        assert_eq!(found.data(&bytes[..39]).unwrap(), b"");
+        assert_eq!(found.data_in(&bytes[..39]).unwrap(), b"");
     }
     found.section.sectname = [0xff; 16];
     assert!(found.name().is_err());

@@ -1,5 +1,7 @@
 //! Segments, sections, symbols, functions and offsets that are looked up by names, addresses and offsets.
-use goblin_mach::{AllStretches, FoundAt, Function, MachO, Stretch, Stretches, SymbolMap};
+use goblin_mach::{
+    AddressMap, AllStretches, FoundAt, Function, MachO, Stretch, Stretches, SymbolMap,
+};
 
 /// A name of 16 bytes, padded with zeros.
 fn padded(name: &str) -> [u8; 16] {
@@ -366,11 +368,70 @@ fn segments_and_sections_that_hold_addresses() {
 fn all_at_an_address() {
     let bytes = image(7);
     let image = MachO::parse(&bytes, 0).unwrap();
+    let map = AddressMap::new(&image).unwrap();
     for address in (0x10f0..0x1170).chain(0x2ff0..0x3030).chain([0, u64::MAX]) {
         let found = FoundAt::look_up(&image, address);
+        assert_eq!(map.look_up(address), found, "{address:#x}");
         assert_eq!(found.section, image.section_at(address), "{address:#x}");
         assert_eq!(found.symbol, image.symbol_at(address), "{address:#x}");
         assert_eq!(found.function, image.function_at(address), "{address:#x}");
+    }
+}
+
+/// Sections and segments that overlap, of which the first counts, and many functions.
+#[test]
+fn a_map_looks_up_as_one_call_does() {
+    for many in [1, 2, 7, 60, 400] {
+        let mut numbers = Numbers(many);
+        let mut bytes = image_of(&[], 0);
+        let mut commands = Vec::new();
+        let mut number = || numbers.below(0x400);
+        let count = 1 + many / 7;
+        for _ in 0..count {
+            let sections = [0; 7].map(|_| ("__TEXT", "__text", 0x1000 + number(), number() / 4));
+            commands.extend(segment("__TEXT", [0x1000, 0x800, 0, 0x40], &sections));
+        }
+        let starts: Vec<u8> = (0..many).map(|_| 1 + (number() % 9) as u8).collect();
+        let place = 32 + commands.len() as u32 + 40;
+        let symoff = place + starts.len() as u32;
+        let symbols: Vec<_> = (0..many)
+            .flat_map(|_| {
+                symbol(
+                    1,
+                    0x0f,
+                    (number() % (7 * count + 2)) as u8,
+                    0x1000 + number(),
+                )
+            })
+            .collect();
+        commands.extend(
+            [0x26, 16, place, many as u32]
+                .map(u32::to_le_bytes)
+                .concat(),
+        );
+        let stroff = symoff + symbols.len() as u32;
+        commands.extend(
+            [2, 24, symoff, many as u32, stroff, 5]
+                .map(u32::to_le_bytes)
+                .concat(),
+        );
+        bytes.truncate(32);
+        bytes[16..24].copy_from_slice(
+            &[count as u32 + 2, commands.len() as u32]
+                .map(u32::to_le_bytes)
+                .concat(),
+        );
+        bytes.extend([commands, starts, symbols, b"\0_a\0\0".to_vec()].concat());
+        bytes.resize(bytes.len().max(0x40), 0);
+        let image = MachO::parse(&bytes, 0).unwrap();
+        let map = AddressMap::new(&image).unwrap();
+        let mut functions = 0;
+        for address in (0xff0..0x1920).chain([0, u64::MAX]) {
+            let found = FoundAt::look_up(&image, address);
+            functions += usize::from(found.function.is_some() && found.symbol.is_some());
+            assert_eq!(map.look_up(address), found, "{many} {address:#x}");
+        }
+        assert!(functions > 0 || many < 60, "{many}");
     }
 }
 

@@ -8,6 +8,7 @@ complete -c machfixups -l names -r -d 'also read the files that FILE lists, one 
 complete -c machfixups -s 0 -d 'names in the lists of --names end with NUL'
 complete -c machfixups -l arch -x -d 'show only images for this cpu'
 complete -c machfixups -l cputype -x -d 'show only images with this cputype'
+complete -c machfixups -l lossy -d 'show what can be read of an image that is refused'
 complete -c machfixups -l color -x -d 'colour what is at fault, auto, always or never'
 complete -c machfixups -s h -d 'print the usage'
 complete -c machfixups -l help -d 'print this help'

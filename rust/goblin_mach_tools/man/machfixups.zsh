@@ -11,6 +11,7 @@ _arguments \
     '-0[names in the lists of --names end with NUL]' \
     '--arch[show only images for this cpu]:NAME: ' \
     '--cputype[show only images with this cputype]:0xN: ' \
+    '--lossy[show what can be read of an image that is refused]' \
     '--color[colour what is at fault, auto, always or never]:WHEN: ' \
     '(- *)-h[print the usage]' \
     '(- *)--help[print this help]' \

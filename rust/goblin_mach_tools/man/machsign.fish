@@ -5,6 +5,7 @@ complete -c machsign -l names -r -d 'also read the files that FILE lists, one na
 complete -c machsign -s 0 -d 'names in the lists of --names end with NUL'
 complete -c machsign -l arch -x -d 'show only images for this cpu'
 complete -c machsign -l cputype -x -d 'show only images with this cputype'
+complete -c machsign -l lossy -d 'show what can be read of an image that is refused'
 complete -c machsign -l color -x -d 'colour what is at fault, auto, always or never'
 complete -c machsign -s h -d 'print the usage'
 complete -c machsign -l help -d 'print this help'

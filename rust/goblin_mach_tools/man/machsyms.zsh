@@ -23,12 +23,14 @@ _arguments \
     '-o[print the file name before each line]' \
     '--raw[print names as they are in the file]' \
     '--limit[print at most N symbols per file]:N: ' \
+    '--at[print what is at an address; - reads more from stdin]:ADDRESS: ' \
+    '--load-address[the address at which an image's first byte is loaded]:A: ' \
     '--json[print one JSON object per file, each on a line]' \
     '--names[also read the files that FILE lists, one name a line]:FILE:_files' \
     '-0[names in the lists of --names end with NUL]' \
     '--arch[show only images for this cpu]:NAME: ' \
     '--cputype[show only images with this cputype]:0xN: ' \
-    '--at[print what each image has at an address]:ADDRESS: ' \
+    '--lossy[show what can be read of an image that is refused]' \
     '--color[colour what is at fault, auto, always or never]:WHEN: ' \
     '(- *)-h[print the usage]' \
     '(- *)--help[print this help]' \

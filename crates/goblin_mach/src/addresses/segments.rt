@@ -65,12 +65,12 @@ impl<B: Allocator + Clone> AllStretches<B> {
     ghost use Rattle.std.specs.Prelude.{ℕ, List, length, IfOk};
     ghost use Rattle.mach_parts.specs.Segment.{SegmentView, segment_view};
     ghost use Rattle.goblin_mach.specs.Facts.{HasSegments};
-    ghost use Rattle.goblin_mach.specs.OpenImage.{IsImage};
+    ghost use Rattle.goblin_mach.specs.OpenImage.{IsLossyImage};
     ghost use Rattle.goblin_mach.specs.AllStretches.{parts_of, parts_view};
 
     /// Returns the segments of an image with their sections, in order. Of these there are no more than the image has bytes.
     pub fn of_image<A: Allocator>(alloc: &B, image: &MachO<'_, A>) -> Result<Self, AllocError>
-        ensures { (bytes : List ℕ) (o : ℕ) → IsImage bytes o image.now → IfOk result (λ parts. (segments : List SegmentView)
+        ensures { (bytes : List ℕ) (o : ℕ) → IsLossyImage bytes o image.now → IfOk result (λ parts. (segments : List SegmentView)
             × HasSegments bytes o segments × (parts_view parts ≡ parts_of (length bytes) segments)) }
     {
         laws::segments_of_image(image);

@@ -9,6 +9,7 @@ ghost use Rattle.mach_parts.specs.SectionRecord.{section_holding};
 ghost use Rattle.mach_parts.specs.Segment.{segment_view};
 ghost use Rattle.mach_parts.specs.Symbols.{symbols_of, table_in_bounds};
 ghost use Rattle.mach_parts.specs.SymbolViews.{table_of};
+ghost use Rattle.goblin_mach.specs.AddressMaps.{claimed_before};
 ghost use Rattle.goblin_mach.specs.Fixups.{base_view};
 ghost use Rattle.goblin_mach.specs.ImageSlots.{symbol_table_view};
 ghost use Rattle.goblin_mach.specs.NamedParts.{symbols_within};
@@ -47,18 +48,30 @@ pub struct Function {
     pub end: u64,
 }
 
+// Returns how many sections the segments before number `upto` claim, by how many those before number `from` do.
+pub(crate) fn claimed_before(
+    segments: &[Segment<'_>],
+    from: usize,
+    before: usize,
+    upto: usize,
+) -> usize
+    requires { before ≡ claimed_before (map segment_view segments.now) from }
+    ensures { result ≡ claimed_before (map segment_view segments.now) upto }
+{
+    let (mut number, mut claimed) = if from <= upto { (from, before) } else { (0, 0) };
+    'segments: while number < upto && number < segments.len() {
+        claimed = claimed.saturating_add(segments[number].nsects as usize);
+        number += 1;
+    }
+    claimed
+}
+
 // Returns the number by which symbols name a section: counted from 1 over all segments.
 pub(crate) fn section_number(segments: &[Segment<'_>], section: &NumberedSection) -> usize
     ensures { result ≡ section_number (map segment_view segments.now) section.now }
 {
-    let mut number = section.number as usize + 1;
-    'segments: for (index, segment) in segments.iter().enumerate() {
-        if index >= section.segment {
-            break;
-        }
-        number = number.saturating_add(segment.nsects as usize);
-    }
-    number
+    let before = claimed_before(segments, 0, 0, section.segment);
+    before.saturating_add(section.number as usize + 1)
 }
 
 // Returns how far an address is above a symbol, if the symbol is defined in the section with this number, is no debugging entry,

@@ -1,8 +1,8 @@
-//! What an image has at an address, as a member of its object.
+//! What an image has at an address, as an object.
 
 ghost use Rattle.std.specs.Prelude.{◌≡◌, option_map, Some};
 ghost use Rattle.mach_dyld.specs.Exports.{text_in};
-ghost use Rattle.mach_cli.specs.AddressObjects.{at_member, function_members, holder_members, number_or_null};
+ghost use Rattle.mach_cli.specs.AddressObjects.{at_object, function_members, holder_members, number_or_null};
 
 use crate::json::text::{StringOrNull, name_in_field};
 use goblin_mach::segment::NumberedSection;
@@ -10,27 +10,27 @@ use goblin_mach::{FoundAt, Function};
 use std::fmt;
 use std::fmt::{Display, Formatter, Write};
 
-/// The object of an address, with its name as a member.
+/// The object of an address.
 #[derive(Clone, Copy)]
-pub struct AtMember<'t, 'a> {
+pub struct AtObject<'t, 'a> {
     /// The address.
     pub address: u64,
     /// What the image has there.
     pub found: &'t FoundAt<'a>,
 }
 
-impl Display for AtMember<'_, '_> {
-    ghost output = { λ t. Some (at_member t.address t.found.now) };
+impl Display for AtObject<'_, '_> {
+    ghost output = { λ t. Some (at_object t.address t.found.now) };
 
     fn fmt<W: Write>(&self, f: &mut Formatter<W>) -> fmt::Result {
-        let AtMember { address, found } = *self;
+        let AtObject { address, found } = *self;
         let distance = NumberOrNull(distance(found));
         let function = FunctionMembers(found.function);
         let holder = HolderMembers(found.section);
         let symbol = StringOrNull(symbol_name(found));
         write!(
             f,
-            "\"at\":{{\"address\":{address},\"distance\":{distance},{function},{holder},\"symbol\":{symbol}}}"
+            "{{\"address\":{address},\"distance\":{distance},{function},{holder},\"symbol\":{symbol}}}"
         )
     }
 }

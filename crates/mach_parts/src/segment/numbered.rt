@@ -2,14 +2,17 @@
 
 ghost use Rattle.std.specs.Prelude.{◌≡◌, map, option_map, slice_get};
 ghost use Rattle.mach_base.specs.Answer.{Reads};
+ghost use Rattle.mach_base.specs.Text.{text_at};
 ghost use Rattle.mach_parts.specs.Section.{section_place};
 ghost use Rattle.mach_parts.specs.Segment.{segment_view};
-ghost use Rattle.mach_parts.specs.SectionRecord.{wider_section, section_record_at, numbered_section, numbered_sections, holds_address, section_by_number};
+ghost use Rattle.mach_parts.specs.SectionRecord.{wider_section, section_record_at, numbered_section, numbered_sections, holds_address};
+ghost use Rattle.mach_parts.specs.SectionRecord.{bytes_of_section, section_by_number};
 ghost use Rattle.mach_parts.specs.NumberedLeft.{numbered_read, numbered_left};
 
 use crate::segment::Segment;
+use crate::segment::section::is_of_zeros;
 use crate::segment::sections::place_of;
-use mach_base::{Container, Ctx, Record, Result};
+use mach_base::{Container, Ctx, Record, Result, bytes_at, read_text};
 use mach_records::{Section32, Section64};
 
 /// A section in its 64-bit form, with its position among the sections of an image.
@@ -30,6 +33,36 @@ impl NumberedSection {
     {
         let section = &self.section;
         section.addr <= address && address - section.addr < section.size
+    }
+
+    /// Returns the section's name: the text with which `sectname` begins.
+    pub fn name(&self) -> Result<&str>
+        ensures { Reads (λ name. name.now) result (text_at self.now.section.sectname 0) }
+    {
+        read_text(&self.section.sectname, 0)
+    }
+
+    /// Returns the name of the section's segment: the text with which `segname` begins.
+    pub fn segname(&self) -> Result<&str>
+        ensures { Reads (λ name. name.now) result (text_at self.now.section.segname 0) }
+    {
+        read_text(&self.section.segname, 0)
+    }
+
+    /// Returns the section's bytes among those of its image; none if it is zero-filled. Fails if they don't lie in the bytes.
+    pub fn data_in<'a>(&self, bytes: &'a [u8]) -> Result<&'a [u8]>
+        ensures { Reads (λ found. found.now) result (bytes_of_section bytes.now self.now.section) }
+    {
+        let Section64 {
+            flags,
+            offset,
+            size,
+            ..
+        } = self.section;
+        if is_of_zeros(flags) {
+            return Ok(&[]);
+        }
+        bytes_at(bytes, offset as usize, size as usize)
     }
 }
 

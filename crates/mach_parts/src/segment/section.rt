@@ -1,6 +1,6 @@
 //! Sections (`mach-o/loader.h`).
 
-ghost use Rattle.std.specs.Prelude.{◌≡◌, ◌<◌, IsTrue, ◌↔◌, length, Ok, OnErr, OnOk};
+ghost use Rattle.std.specs.Prelude.{◌≡◌, ◌<◌, length, Ok, OnErr, OnOk};
 ghost use Rattle.mach_base.specs.Answer.{Reads};
 ghost use Rattle.mach_base.specs.Number.{room_at};
 ghost use Rattle.mach_base.specs.Record.{spelling, record_at, IsWritten};
@@ -87,14 +87,12 @@ impl Section {
     }
 }
 
-// Whether a section with these flags consists of zeros that take no bytes of the file.
-fn is_of_zeros(flags: u32) -> bool
-    ensures { IsTrue result ↔ IsTrue (is_zero_fill flags) }
+/// Whether a section with these flags consists of zeros that take no bytes of the file.
+pub fn is_of_zeros(flags: u32) -> bool
+    ensures { result ≡ is_zero_fill flags }
 {
-    matches!(
-        flags & SECTION_TYPE,
-        S_ZEROFILL | S_GB_ZEROFILL | S_THREAD_LOCAL_ZEROFILL
-    )
+    let kind = flags & SECTION_TYPE;
+    kind == S_ZEROFILL || kind == S_GB_ZEROFILL || kind == S_THREAD_LOCAL_ZEROFILL
 }
 
 impl Default for Section {

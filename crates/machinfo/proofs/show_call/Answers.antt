@@ -1,4 +1,4 @@
-use Rattle.std.proofs.Common.{◌≡◌, ◌∙◌, ℕ, List, Some, subst, sym}
+use Rattle.std.proofs.Common.{◌≡◌, ◌∙◌, ℕ, List, Option, Some, ap, subst, sym}
 use Rattle.std.proofs.lemmas.Result.{IfOk-weaker}
 use Rattle.std.specs.Borrow.{Bor}
 use Rattle.machinfo.specs.Words.{selected}
@@ -10,7 +10,8 @@ returns-clause-lines g c = λ form.
     IfOk-weaker c.show.result _ _ (λ worst shown. (
       c.in-Ok.selection.choice,
       c.in-Ok.selection.files.now,
-      subst (λ (words : List (Bor (List ℕ))). selected c.args.call.now.address words ≡ Some (c.in-Ok.selection.choice, c.in-Ok.selection.files.now))
+      ap (λ (address : Option ℕ). selected address c.args.call.now.words.items) (sym c.last_address.ensures)
+          ∙ subst (λ (words : List (Bor (List ℕ))). selected c.last_address.result words ≡ Some (c.in-Ok.selection.choice, c.in-Ok.selection.files.now))
           c.as_slice-words.ensures.value (sym chosen),
       c.shown_by-shown.result,
       c.shown_by-shown.ensures,
@@ -23,7 +24,8 @@ returns-clause-objects g c = λ form.
     IfOk-weaker c.show.result _ _ (λ worst shown. (
       c.in-Ok.selection.choice,
       c.in-Ok.selection.files.now,
-      subst (λ (words : List (Bor (List ℕ))). selected c.args.call.now.address words ≡ Some (c.in-Ok.selection.choice, c.in-Ok.selection.files.now))
+      ap (λ (address : Option ℕ). selected address c.args.call.now.words.items) (sym c.last_address.ensures)
+          ∙ subst (λ (words : List (Bor (List ℕ))). selected c.last_address.result words ≡ Some (c.in-Ok.selection.choice, c.in-Ok.selection.files.now))
           c.as_slice-words.ensures.value (sym chosen),
       c.shown_by-shown.result,
       c.shown_by-shown.ensures,

@@ -1,7 +1,8 @@
-//! Small callers of what is looked up in an image, and of what single commands say: each states its answer by a fact about the
+//! Small callers of what is looked up in an image, what its sections hold, and what single commands say: each states its answer by a fact about the
 //! bytes, and cites the law that gives it.
 
 ghost use Rattle.std.specs.Prelude.{◌≡◌, ℕ, List, Some, IfSome, option_map};
+ghost use Rattle.mach_base.specs.Items.{read_as};
 ghost use Rattle.mach_parts.specs.Segment.{segment_view};
 ghost use Rattle.goblin_mach.specs.FileOffsets.{maps_address, maps_offset, AtMostOne};
 ghost use Rattle.goblin_mach.specs.LookedUpFacts.{HasSegmentNamed, HasSectionNamed, HasSymbolNamed, HasSymbolsNamed, HasFunctionAt};
@@ -14,12 +15,18 @@ ghost use Rattle.goblin_mach.specs.OpenImage.{IsImage, segments_view};
 ghost use Rattle.goblin_mach.specs.Said.{build_version_said};
 ghost use Rattle.goblin_mach.specs.SaidFacts.{HasUuid, HasBuildVersions, HasSourceVersion, HasEncryption, HasDylinker};
 ghost use Rattle.goblin_mach.specs.SaidLeft.{said_left, said_text};
+ghost use Rattle.goblin_mach.specs.SlotFacts.{HasSectionData, HasStringsOf, HasInitializers};
+ghost use Rattle.goblin_mach.specs.Initializers.{initializers_left};
+ghost use Rattle.goblin_mach.specs.Strings.{strings_left};
 
 use crate::tests::same::same;
 use goblin_mach::said::BuildVersionIterator;
 use goblin_mach::segment::{NumberedSection, Segment};
 use goblin_mach::symbols::Nlist;
-use goblin_mach::{Encryption, Function, MachO, NamedSymbols, Result, SymbolAt, SymbolMap, laws};
+use goblin_mach::{
+    Encryption, Function, InitializerIterator, MachO, NamedSymbols, Result, StringIterator,
+    SymbolAt, SymbolMap, laws,
+};
 use mach_samples::files::FILE_B;
 use std::test::Fail;
 
@@ -116,6 +123,28 @@ fn offset_of(image: &MachO<'_>, address: u64) -> Option<u64>
     image.offset_of_address(address)
 }
 
+fn section_data<'a>(image: &MachO<'a>, section: &NumberedSection) -> Result<&'a [u8]>
+    ensures { (bytes : List ℕ) (o : ℕ) → IsImage bytes o image.now
+        → HasSectionData bytes o section.now.section (read_as (λ found. found.now) result) }
+{
+    laws::section_data_of_image(image);
+    image.section_data(section)
+}
+
+fn strings_of<'a>(image: &MachO<'a>, section: &NumberedSection) -> Result<StringIterator<'a>>
+    ensures { (bytes : List ℕ) (o : ℕ) → IsImage bytes o image.now → HasStringsOf bytes o section.now.section (read_as strings_left result) }
+{
+    laws::strings_of_image(image);
+    image.strings_of(section)
+}
+
+fn initializers<'a, 'b>(image: &'b MachO<'a>) -> Result<InitializerIterator<'a, 'b>>
+    ensures { (bytes : List ℕ) (o : ℕ) → IsImage bytes o image.now → HasInitializers bytes o (read_as initializers_left result) }
+{
+    laws::initializers_of_image(image);
+    image.initializers()
+}
+
 // Returns what a map and its image find at an address, which is the same.
 fn found_twice<'a>(
     map: &SymbolMap<'a, '_>,
@@ -172,6 +201,22 @@ fn looked_up(rt: HostRuntime) -> std::result::Result<(), Fail> {
     let map = SymbolMap::new(rt.alloc(), &image)?;
     let (found, other) = found_twice(&map, 0x100000138);
     assert!(rt; found.is_none() && other.is_none());
+    Ok(())
+}
+
+#[test]
+fn contents(rt: HostRuntime) -> std::result::Result<(), Fail> {
+    let image = MachO::parse(rt.alloc(), &FILE_B, 0)?;
+    let Some(section) = section_named(&image, "__TEXT", "__text") else {
+        return Err(Fail::from("section"));
+    };
+    let held = &FILE_B[0x138..0x140];
+    assert!(rt; section_data(&image, &section)? == held);
+    let mut strings = strings_of(&image, &section)?;
+    assert!(rt; matches!(strings.next(), Some(s) if s.place == 0 && s.bytes == &held[..4]));
+    assert!(rt; matches!(strings.next(), Some(s) if s.place == 5 && s.bytes == &held[5..]));
+    assert!(rt; strings.next().is_none());
+    assert!(rt; initializers(&image)?.next().is_none());
     Ok(())
 }
 

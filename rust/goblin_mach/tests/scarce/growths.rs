@@ -11,7 +11,8 @@ use goblin_mach::segment::{Segment, Segments};
 use goblin_mach::symbols::Symbols;
 use goblin_mach::write::{FatEntry, fat_order, write_fat, write_fat64};
 use goblin_mach::{
-    AllStretches, Ctx, Error, Mach, MachO, MultiArch, Result, SingleArch, SymbolMap, link_view,
+    AddressMap, AllStretches, Ctx, Error, Mach, MachO, MultiArch, Result, SingleArch, SymbolMap,
+    link_view,
 };
 use std::fmt::Debug;
 
@@ -136,6 +137,18 @@ fn maps_of_symbols() {
             .map(|found| found.index))
     };
     assert_eq!(refused_runs(nearest), 5);
+}
+
+#[test]
+fn maps_of_addresses() {
+    let image = MachO::parse(FILE_B, 0).unwrap();
+    let found = || {
+        Ok(AddressMap::new(&image)?
+            .look_up(0x100000138)
+            .section
+            .is_some())
+    };
+    assert_eq!(refused_runs(found), 5);
 }
 
 #[test]

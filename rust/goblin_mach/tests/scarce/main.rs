@@ -10,8 +10,8 @@ mod samples;
 use goblin_mach::exports::ExportInfo;
 use goblin_mach::write::{FatEntry, Form, create, fat_order};
 use goblin_mach::{
-    AllStretches, AllocError, Error, LinkView, Mach, MachO, MultiArch, SingleArch, SymbolMap,
-    layout, link_view,
+    AddressMap, AllStretches, AllocError, Error, LinkView, Mach, MachO, MultiArch, SingleArch,
+    SymbolMap, layout, link_view,
 };
 use samples::{FILE_A, FILE_B, FILE_C};
 use std::alloc::{GlobalAlloc, Layout, System};
@@ -88,6 +88,7 @@ fn work(bytes: &[u8]) -> Result<usize, Error> {
         count += unless_memory(image.relocations())?.map_or(0, |all| all.len());
         count += layout::layout_faults(&image)?.len();
         count += SymbolMap::new(&image)?.len();
+        count += usize::from(AddressMap::new(&image)?.look_up(0).section.is_some());
         count += usize::from(AllStretches::of_image(&image)?.first_with(0).is_some());
         let mut walk = image.walk_exports()?;
         while let Some(item) = walk.next() {

@@ -5,10 +5,10 @@ use Rattle.mach_cli.specs.Calls.{call_view, kind_at, AddsWord, TakesDashed, Take
 use Rattle.mach_cli.specs.declared.call.Kind.{Kind}
 use Rattle.mach_cli.specs.declared.call.Kind.TheVariants as kinds
 use Rattle.mach_cli.proofs.CallsRead.{kind_of-word, option_open, same_over}
-use Rattle.mach_cli.proofs.CallsRead.{asks_text, form_step, nul_step, option_step, other_made, other_step, own_made, own_step, plain_step, untaken_all}
-use Rattle.mach_cli.proofs.CallsRead.{valued_made, valued_step, words_more, not_plain}
+use Rattle.mach_cli.proofs.CallsRead.{asks_text, form_step, lossy_step, nul_step, option_step, other_made, other_step, own_made, own_step, plain_step}
+use Rattle.mach_cli.proofs.CallsRead.{untaken_all, valued_made, valued_step, words_more, not_plain}
 use Rattle.mach_cli.proofs.call.read.Goals as goal
-use Rattle.mach_cli.proofs.call.read.Goals.{in-Plain, in-Nul, in-Form, in-Valued, in-Other+in_default-add, in-Own+in_default-take_dashed}
+use Rattle.mach_cli.proofs.call.read.Goals.{in-Plain, in-Nul, in-Lossy, in-Form, in-Valued, in-Other+in_default-add, in-Own+in_default-take_dashed}
 
 pub words-preserved-in-Some : goal.words-preserved-in-Some
 words-preserved-in-Some g c =
@@ -84,6 +84,9 @@ words-preserved g c =
       | in-Nul p ↦
           rw (p.call-is, p.before-is, p.is_plain-is, c.in_default.is)
           (same_over _ _ _ before (nul_step g.O.OwnOptions.taken o w rest view l.is_plain (kind kinds.Nul p.in-Nul.is)), λ _. refl)
+      | in-Lossy p ↦
+          rw (p.call-is, p.before-is, p.is_plain-is, c.in_default.is)
+          (same_over _ _ _ before (lossy_step g.O.OwnOptions.taken o w rest view l.is_plain (kind kinds.Lossy p.in-Lossy.is)), λ _. refl)
       | in-Form p ↦
           let format = p.in-Form.format in
           rw (p.call-is, p.before-is, p.is_plain-is, c.in_default.is)

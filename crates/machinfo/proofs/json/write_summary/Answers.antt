@@ -1,6 +1,6 @@
 use Rattle.std.proofs.Common.{◌≡◌, refl}
 use Rattle.mach_base.proofs.Written.{Appends-both}
-use Rattle.goblin_mach.proofs.ImageFacts.{facts_are, strict-lossy}
+use Rattle.goblin_mach.proofs.ImageFacts.{facts_are}
 use Rattle.goblin_mach.specs.ImageFacts.{Facts, facts_view}
 use Rattle.goblin_mach.specs.OpenImage.{bytes_view, commands_view}
 use Rattle.mach_signature.proofs.SignedFacts.{directory_is}
@@ -17,9 +17,9 @@ returns g c = λ bytes opened.
       record {
         opens = (opened.ctx, commands_view m, opened.opens);
         facts = facts_view m;
-        has_facts = (facts_are bytes 0 m (strict-lossy bytes 0 m opened) (λ (f : Facts). facts_view m ≡ f)).1 refl;
+        has_facts = (facts_are bytes 0 m opened (λ (f : Facts). facts_view m ≡ f)).1 refl;
         there = there;
-        has_directory = ((directory_is m).strict bytes 0 opened there).1 refl;
+        has_directory = ((directory_is m).lossy bytes 0 opened there).1 refl;
         front = front.text;
         front_whole = c.in_ok-front.front;
         is_front_whole = c.in_ok-front.ensures.status bytes opened;

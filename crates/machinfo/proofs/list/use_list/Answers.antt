@@ -15,6 +15,8 @@ use Rattle.machinfo.specs.Parts.{entry_view, uuid_rows_left}
 use Rattle.machinfo.specs.ProvidedSymbols.{provided_left}
 use Rattle.machinfo.specs.Relocations.{relocation_rows_left}
 use Rattle.machinfo.specs.RowFields.{data_fields, fields_read, indirect_fields, provided_fields}
+use Rattle.machinfo.specs.SectionBytes.{byte_rows_left}
+use Rattle.machinfo.specs.SectionContents.{init_rows_left, string_rows_left}
 use Rattle.machinfo.specs.SectionRows.{sections_counted_left}
 use Rattle.machinfo.specs.declared.word.Word.TheVariants as words
 use Rattle.machinfo.proofs.Facts as facts
@@ -163,3 +165,21 @@ returns-in-Relocations g c =
     rw c.in-Relocations.is (λ bytes p. of_rows _ bytes _ _ _ _ _
     (facts.relocation_rows c.args.image.now bytes 0 p (relocation_rows_left list.result.0) list.result.1 list.ensures.left list.ensures.past)
     c.of_list-in-Relocations.ensures)
+
+pub returns-in-Strings : goal.returns-in-Strings
+returns-in-Strings g c =
+    rw c.in-Strings.is (λ bytes p. of_rows _ bytes _ _ _ _ _
+    (facts.string_rows_are c.args.image.now bytes 0 p (string_rows_left c.of-in-Strings.result) c.of-in-Strings.ensures)
+    c.of_list-in-Strings.ensures)
+
+pub returns-in-Inits : goal.returns-in-Inits
+returns-in-Inits g c =
+    rw c.in-Inits.is (λ bytes p. of_rows _ bytes _ _ _ _ _
+    (facts.init_rows_are c.args.image.now bytes 0 p (init_rows_left c.of-in-Inits.result) c.of-in-Inits.ensures)
+    c.of_list-in-Inits.ensures)
+
+pub returns-in-Bytes : goal.returns-in-Bytes
+returns-in-Bytes g c =
+    rw c.in-Bytes.is (λ bytes p. of_rows _ bytes _ _ _ _ _
+    (facts.byte_rows_are c.args.image.now bytes 0 p c.in-Bytes.name (byte_rows_left c.of-in-Bytes.result) c.of-in-Bytes.ensures)
+    c.of_list-in-Bytes.ensures)

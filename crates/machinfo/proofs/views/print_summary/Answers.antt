@@ -1,7 +1,7 @@
 use Rattle.std.proofs.Common.{◌≡◌, Bool, refl, ap, ◌∙◌}
 use Rattle.std.specs.Prelude.{◌&&◌, ◌==◌}
 use Rattle.mach_base.proofs.Written.{Appends-both}
-use Rattle.goblin_mach.proofs.ImageFacts.{facts_are, strict-lossy}
+use Rattle.goblin_mach.proofs.ImageFacts.{facts_are}
 use Rattle.goblin_mach.specs.ImageFacts.{Facts, facts_view}
 use Rattle.goblin_mach.specs.ImageSlots.{symbol_table_view}
 use Rattle.goblin_mach.specs.OpenImage.{bytes_view, commands_view}
@@ -28,7 +28,7 @@ returns g c = λ bytes opened.
       record {
         opens = (opened.ctx, commands_view m, opened.opens);
         facts = facts_view m;
-        has_facts = (facts_are bytes 0 m (strict-lossy bytes 0 m opened) (λ (f : Facts). facts_view m ≡ f)).1 refl;
+        has_facts = (facts_are bytes 0 m opened (λ (f : Facts). facts_view m ≡ f)).1 refl;
         front = front.0;
         front_whole = c.in_ok-front.front;
         are_front = front.1;
@@ -39,7 +39,7 @@ returns g c = λ bytes opened.
         used_whole = c.in_ok-used.used;
         are_used = used.1;
         there = there;
-        has_directory = ((directory_is m).strict bytes 0 opened there).1 refl;
+        has_directory = ((directory_is m).lossy bytes 0 opened there).1 refl;
         signed = signed.1.text;
         are_signed = signed.1.lines;
         counts = counted.0;

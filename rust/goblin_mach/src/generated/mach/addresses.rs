@@ -2,11 +2,13 @@
 //! What an image has at an address.
 #![forbid(unsafe_code)]
 
-// The memory of the segments and of the sections.
+// The memory of the segments and of the sections, and many look-ups.
+mod map;
 mod memory;
 mod segments;
 mod stretches;
 
+pub use crate::generated::mach::addresses::map::AddressMap;
 pub use crate::generated::mach::addresses::segments::{AllStretches, SegmentStretches};
 pub use crate::generated::mach::addresses::stretches::{Stretch, Stretches};
 use crate::generated::mach::macho::{Function, MachO, SymbolAt};
@@ -41,7 +43,7 @@ impl<'a> FoundAt<'a> {
     ///
     /// <details><summary>Proved</summary>
     ///
-    /// - for each `bytes : List ℕ`, if `IsImage bytes 0 image`, `IsFoundAt bytes address result`
+    /// - for each `bytes : List ℕ`, if `IsLossyImage bytes 0 image`, `IsFoundAt bytes address result`
     ///
     /// </details>
     pub fn look_up(image: &MachO<'a>, address: u64) -> FoundAt<'a> {

@@ -7,6 +7,9 @@ use crate::generated::mach_parts::magic::{parse_magic_and_ctx, peek};
 use core::fmt;
 use core::fmt::{Display, Formatter};
 
+// How many bytes are tested for those of a text.
+const TESTED: usize = 256;
+
 /// Whether bytes begin as an image does.
 ///
 /// <details><summary>Proved</summary>
@@ -37,6 +40,8 @@ pub enum Foreign {
     Archive,
     /// LLVM bitcode, bare or in its wrapper.
     Bitcode,
+    /// A text.
+    Text,
 }
 
 impl core::fmt::Debug for Foreign {
@@ -62,13 +67,38 @@ pub fn foreign_kind(bytes: &[u8]) -> Option<Foreign> {
         Some(Foreign::Elf)
     } else if bytes.starts_with(b"MZ") {
         Some(Foreign::Pe)
-    } else if bytes.starts_with(b"!<arch>\n") {
+    } else if bytes.starts_with(b"!<arch>\n") || bytes.starts_with(b"!<thin>\n") {
         Some(Foreign::Archive)
     } else if bytes.starts_with(b"BC\xc0\xde") || bytes.starts_with(b"\xde\xc0\x17\x0b") {
         Some(Foreign::Bitcode)
+    } else if begins_text(bytes) {
+        Some(Foreign::Text)
     } else {
         None
     }
+}
+
+// Whether a byte may be one of a text: white space, a printable character, or a part of a character from 0x80 on.
+fn is_text_byte(byte: u8) -> bool {
+    byte >= 0x20 && byte != 0x7f || 9 <= byte && byte <= 13
+}
+
+// Whether all bytes may be those of a text.
+fn are_text_bytes(bytes: &[u8]) -> bool {
+    bytes.iter().all(|byte| is_text_byte(*byte))
+}
+
+// Whether bytes begin with a character of ASCII.
+fn begins_ascii(bytes: &[u8]) -> bool {
+    match bytes.first() {
+        Some(first) => *first < 0x80,
+        None => false,
+    }
+}
+
+// Whether bytes begin as a text does: with a character of ASCII, and without control characters among the first 256.
+fn begins_text(bytes: &[u8]) -> bool {
+    begins_ascii(bytes) && are_text_bytes(&bytes[..TESTED.min(bytes.len())])
 }
 
 // Whether a file with the magic of fat files is a Java class: a version, from 45 on, is in the place of the count.
@@ -88,6 +118,7 @@ impl Display for Foreign {
             Foreign::Pe => write!(f, "not Mach-O: a PE or DOS program"),
             Foreign::Archive => write!(f, "not Mach-O: an archive"),
             Foreign::Bitcode => write!(f, "not Mach-O: LLVM bitcode"),
+            Foreign::Text => write!(f, "not Mach-O: a text file"),
         }
     }
 }

@@ -4,6 +4,7 @@
 
 use alloc::vec::Vec;
 
+mod contents;
 mod debug;
 mod dyld;
 pub mod look_up;
@@ -19,7 +20,9 @@ mod tables;
 use crate::generated::mach::fields::Fields;
 pub use crate::generated::mach::macho::named_symbols::NamedSymbols;
 pub use crate::generated::mach::macho::nearest::{Function, SymbolAt};
-pub(crate) use crate::generated::mach::macho::nearest::{distance_above, section_number};
+pub(crate) use crate::generated::mach::macho::nearest::{
+    claimed_before, distance_above, section_number,
+};
 use crate::generated::mach::opened::Opened;
 use crate::generated::mach::relocations::{RelocatedSection, relocations};
 use crate::generated::mach_base::{Ctx, Result};

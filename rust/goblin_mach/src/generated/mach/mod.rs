@@ -11,6 +11,7 @@ pub mod entry;
 mod exported;
 mod fields;
 pub mod fixups;
+mod initializers;
 pub mod libraries;
 mod macho;
 mod named_bytes;
@@ -22,6 +23,7 @@ mod relocations;
 #[doc(hidden)]
 pub mod said;
 mod single_value;
+mod strings;
 mod subjects;
 mod symbol_map;
 pub mod table_places;
@@ -50,6 +52,7 @@ pub mod addresses;
 #[doc(hidden)]
 pub mod laws;
 
+pub use crate::generated::mach::addresses::AddressMap;
 pub use crate::generated::mach::addresses::AllStretches;
 pub use crate::generated::mach::addresses::FoundAt;
 pub use crate::generated::mach::addresses::SegmentStretches;
@@ -72,6 +75,8 @@ pub use crate::generated::mach::first_bytes::Foreign;
 pub use crate::generated::mach::fixups::FixupIterator;
 #[cfg(feature = "archive")]
 pub use crate::generated::mach::images::Images;
+pub use crate::generated::mach::initializers::Initializer;
+pub use crate::generated::mach::initializers::InitializerIterator;
 #[cfg(feature = "archive")]
 pub use crate::generated::mach::input::Input;
 #[cfg(feature = "archive")]
@@ -97,6 +102,8 @@ pub use crate::generated::mach::rebases::RebaseIterator;
 pub use crate::generated::mach::said::BuildVersion;
 pub use crate::generated::mach::said::Encryption;
 pub use crate::generated::mach::said::FilesetEntry;
+pub use crate::generated::mach::strings::SectionString;
+pub use crate::generated::mach::strings::StringIterator;
 pub use crate::generated::mach::subjects::id_place;
 pub use crate::generated::mach::subjects::library_place;
 pub use crate::generated::mach::subjects::run_path_place;

@@ -11,10 +11,8 @@ use crate::generated::mach_layout::placed_sections::{
 };
 use crate::generated::mach_layout::rules::{Items, owner_at};
 use crate::generated::mach_load::{CommandVariant, LoadCommand, NewerCommand};
+use crate::generated::mach_parts::segment::is_of_zeros;
 use crate::generated::mach_parts::symbols::{SIZEOF_NLIST_32, SIZEOF_NLIST_64};
-use crate::generated::mach_records::constants::{
-    S_GB_ZEROFILL, S_THREAD_LOCAL_ZEROFILL, S_ZEROFILL, SECTION_TYPE,
-};
 use crate::generated::mach_records::{
     DyldInfoCommand, DysymtabCommand, LinkeditDataCommand, SymtabCommand,
 };
@@ -187,12 +185,6 @@ pub fn has_bytes(layout: &Layout<'_, '_>, placed: &PlacedSection) -> bool {
         && !is_of_zeros(placed.section.flags)
         && !layout.is_stub()
         && !(layout.is_dsym() && placed.section.offset == 0)
-}
-
-// Whether a section with these flags is zero-filled, so that it takes no bytes of the file.
-fn is_of_zeros(flags: u32) -> bool {
-    let kind = flags & SECTION_TYPE;
-    kind == S_ZEROFILL || kind == S_GB_ZEROFILL || kind == S_THREAD_LOCAL_ZEROFILL
 }
 
 // Returns the claim of `len` bytes from a start on, by a part of a section.

@@ -24,7 +24,7 @@ pub use crate::generated::mach_parts::segment::numbered::{
 };
 pub use crate::generated::mach_parts::segment::readable::{ReadableSections, section_holding};
 pub use crate::generated::mach_parts::segment::relocations::RelocationIterator;
-pub use crate::generated::mach_parts::segment::section::{Section, SectionData};
+pub use crate::generated::mach_parts::segment::section::{Section, SectionData, is_of_zeros};
 pub use crate::generated::mach_parts::segment::sections::{
     SectionIterator, own_sections, place_of,
 };

@@ -2,11 +2,8 @@
 //! The pages that faults are about: which of them are shown, and the segment and the section that each is in.
 #![forbid(unsafe_code)]
 
-use crate::generated::mach::segment::Segment;
+use crate::generated::mach::segment::{Segment, is_of_zeros};
 use crate::generated::mach_base::bytes_at;
-use crate::generated::mach_records::constants::{
-    S_GB_ZEROFILL, S_THREAD_LOCAL_ZEROFILL, S_ZEROFILL, SECTION_TYPE,
-};
 use crate::generated::mach_signature::directory::CodeDirectory;
 use crate::generated::mach_signature::fault::{CodeFault, DirectoryFault, SignatureFault};
 use crate::generated::mach_signature::signature::CodeSignature;
@@ -178,12 +175,6 @@ fn segment_number(segments: &[Segment<'_>], page: ChangedPage) -> Option<usize> 
         }
     }
     None
-}
-
-// Whether a section with these flags has no part in the file.
-fn is_of_zeros(flags: u32) -> bool {
-    let kind = flags & SECTION_TYPE;
-    kind == S_ZEROFILL || kind == S_GB_ZEROFILL || kind == S_THREAD_LOCAL_ZEROFILL
 }
 
 // Whether a section can be read, and its part in the file has a byte of a page.

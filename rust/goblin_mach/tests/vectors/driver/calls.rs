@@ -52,6 +52,8 @@ fn call_of(name: &str) -> Option<Call> {
         "providers" => Image(image::providers),
         "section-at" => LookUp(image::section_at),
         "section-of" => LookUp(image::section_of),
+        "strings" => LookUp(image::strings),
+        "initializers" => Image(image::initializers),
         "exports" => Image(dyld::exports),
         "walk" => Image(dyld::walk),
         "find" => LookUp(dyld::find),

@@ -298,3 +298,29 @@ pub fn section_at(image: &MachO, vector: &Vector) -> Lines {
 pub fn section_of(image: &MachO, vector: &Vector) -> Lines {
     found(image.section_of(vector.number() as usize), section)
 }
+
+pub fn strings(image: &MachO, vector: &Vector) -> Lines {
+    let section = match image.section_of(vector.number() as usize) {
+        Ok(Some(section)) => section,
+        Ok(None) => return ended(vec!["none".to_string()]),
+        Err(why) => return vec![error(&why)],
+    };
+    match image.strings_of(&section) {
+        Ok(items) => list(items.map(Ok), |it| {
+            format!("string {:#x} {}", it.place, quoted(it.bytes))
+        }),
+        Err(why) => vec![error(&why)],
+    }
+}
+
+pub fn initializers(image: &MachO) -> Lines {
+    match image.initializers() {
+        Ok(items) => list(items, |it| {
+            format!(
+                "initializer at {:#x} target {:#x} segment {} section {}",
+                it.slot, it.target, it.section.segment, it.section.number
+            )
+        }),
+        Err(why) => vec![error(&why)],
+    }
+}

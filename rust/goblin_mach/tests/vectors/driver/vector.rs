@@ -128,7 +128,7 @@ impl<'t> Block<'t> {
         let key = match call {
             "find" | "archive-find" | "member-named" => "name",
             "slot-at" | "section-at" => "address",
-            "section-of" | "write-fat" | "requirement" => "number",
+            "section-of" | "strings" | "write-fat" | "requirement" => "number",
             _ if call.ends_with("-names") => "number",
             _ => return Ok(()),
         };

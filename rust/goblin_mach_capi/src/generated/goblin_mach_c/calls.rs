@@ -6,6 +6,7 @@ pub use super::archive_find::{gmr_archive_find, gmr_archive_member_named};
 pub use super::audit::gmr_audit;
 pub use super::bindings::gmr_bindings;
 pub use super::commands::gmr_commands;
+pub use super::contents::{gmr_initializers, gmr_section_data, gmr_strings};
 pub use super::data_in_code::gmr_data_in_code;
 pub use super::entitlement_items::gmr_entitlement_items;
 pub use super::entitlements::gmr_entitlements_agree;
@@ -64,6 +65,9 @@ macro_rules! calls {
         $with!(gmr_audit(bytes: &[u8], limit: usize, out: &mut [gm_finding], count: &mut usize, verdict: &mut u32, error: &mut gm_error) -> u32);
         $with!(gmr_bindings(bytes: &[u8], image: &gm_image, cursor: &mut gm_binding_cursor, out: &mut [gm_binding], count: &mut usize, error: &mut gm_error) -> u32);
         $with!(gmr_commands(bytes: &[u8], image: &gm_image, first: usize, out: &mut [gm_command]) -> usize);
+        $with!(gmr_initializers(bytes: &[u8], image: &gm_image, first: usize, out: &mut [gm_initializer], count: &mut usize, error: &mut gm_error) -> u32);
+        $with!(gmr_section_data(bytes: &[u8], offset: u32, size: u64, flags: u32, found: &mut gm_span, error: &mut gm_error) -> u32);
+        $with!(gmr_strings(bytes: &[u8], first: usize, out: &mut [gm_span]) -> usize);
         $with!(gmr_data_in_code(bytes: &[u8], image: &gm_image, first: usize, out: &mut [gm_data_in_code_entry]) -> usize);
         $with!(gmr_entitlement_items(bytes: &[u8], image: &gm_image, is_der: u32, items: &mut [gm_entitlement_item], count: &mut usize, texts: &mut [u8], texts_len: &mut usize, error: &mut gm_error) -> u32);
         $with!(gmr_entitlements_agree(bytes: &[u8], image: &gm_image, agreement: &mut u32, error: &mut gm_error) -> u32);

@@ -4,7 +4,7 @@
 
 use goblin_mach::fat::FAT_MAGIC;
 use goblin_mach::internals::mach::{begins_image, foreign_kind};
-use goblin_mach::{FAT_MAGIC_64, Foreign, begins_archive, peek};
+use goblin_mach::{FAT_MAGIC_64, Foreign, peek};
 
 /// They show no kind.
 pub const GM_KIND_UNKNOWN: u32 = 0;
@@ -36,6 +36,9 @@ pub const GM_KIND_JAVA_CLASS: u32 = 8;
 /// LLVM bitcode.
 pub const GM_KIND_BITCODE: u32 = 9;
 
+/// A text.
+pub const GM_KIND_TEXT: u32 = 10;
+
 // Returns the number of a kind that isn't Mach-O.
 fn foreign_number(kind: Foreign) -> u32 {
     match kind {
@@ -45,14 +48,12 @@ fn foreign_number(kind: Foreign) -> u32 {
         Foreign::Pe => GM_KIND_PE,
         Foreign::Archive => GM_KIND_ARCHIVE,
         Foreign::Bitcode => GM_KIND_BITCODE,
+        Foreign::Text => GM_KIND_TEXT,
     }
 }
 
-// Returns the number of a fat file or of an archive that the bytes begin as.
-fn container_number(bytes: &[u8]) -> u32 {
-    if begins_archive(bytes) {
-        return GM_KIND_ARCHIVE;
-    }
+// Returns the number of a fat file that the bytes begin as.
+fn fat_number(bytes: &[u8]) -> u32 {
     match peek(bytes, 0) {
         Ok(FAT_MAGIC) => GM_KIND_FAT,
         Ok(FAT_MAGIC_64) => GM_KIND_FAT_64,
@@ -73,6 +74,6 @@ pub fn gmr_kind(bytes: &[u8]) -> u32 {
     }
     match foreign_kind(bytes) {
         Some(kind) => foreign_number(kind),
-        None => container_number(bytes),
+        None => fat_number(bytes),
     }
 }

@@ -9,6 +9,7 @@ mod audit;
 mod bindings;
 pub mod calls;
 mod commands;
+mod contents;
 mod data_in_code;
 mod entitlement_items;
 mod entitlement_rows;

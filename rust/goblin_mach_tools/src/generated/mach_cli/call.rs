@@ -21,8 +21,14 @@ pub struct Call<'a, O> {
     pub limit: Option<usize>,
     /// The cpu after `--arch` or `--cputype`; any, if neither is given.
     pub cpu: Cpu,
-    /// The address after `--at`, if it is given.
-    pub address: Option<u64>,
+    /// The addresses after `--at`, in order.
+    pub addresses: Vec<u64>,
+    /// Whether standard input has more: `--at -` is given.
+    pub reads_addresses: bool,
+    /// The address after `--load-address`, if it is given.
+    pub load_address: Option<u64>,
+    /// Whether `--lossy` is given.
+    pub is_lossy: bool,
     /// The form that the last of `--quiet` and `--json` selects; text, if neither is given.
     pub format: Format,
     /// When its output is coloured: the value of `--color`; `auto` if it isn't given.
@@ -63,6 +69,7 @@ enum Valued {
     Arch,
     Cputype,
     Address,
+    LoadAddress,
     Color,
     Names,
 }
@@ -76,6 +83,8 @@ enum Kind {
     Asks(Asked),
     // `-0`: names in lists end with NUL.
     Nul,
+    // `--lossy`: an image that strict mode refuses is opened in lossy mode.
+    Lossy,
     // An option that selects a form.
     Form(Format),
     // An option with a value.
@@ -88,7 +97,7 @@ enum Kind {
 
 // Why arguments request nothing, or aren't read.
 #[derive(Clone, Copy)]
-enum Untaken<'a> {
+pub(crate) enum Untaken<'a> {
     // One of them is wrong.
     Misuse(Misuse<'a>),
     // Memory ran out.
@@ -103,12 +112,14 @@ fn kind_of(word: &str, options: Options) -> Kind {
         "--help" => Kind::Asks(Asked::Help),
         "--version" => Kind::Asks(Asked::Version),
         "-0" if options.has_files => Kind::Nul,
+        "--lossy" if options.has_lossy => Kind::Lossy,
         "--json" if options.has_json => Kind::Form(Format::Json),
         "--quiet" if options.has_quiet => Kind::Form(Format::Quiet),
         "--limit" if options.has_limit => Kind::Valued(Valued::Limit),
         "--arch" if options.has_arch => Kind::Valued(Valued::Arch),
         "--cputype" if options.has_cputype => Kind::Valued(Valued::Cputype),
         "--at" if options.has_address => Kind::Valued(Valued::Address),
+        "--load-address" if options.has_load_address => Kind::Valued(Valued::LoadAddress),
         "--color" => Kind::Valued(Valued::Color),
         "--names" if options.has_files => Kind::Valued(Valued::Names),
         "-" => Kind::Other,
@@ -145,6 +156,7 @@ impl Valued {
             Valued::Arch => "NAME after --arch",
             Valued::Cputype => "0xN after --cputype",
             Valued::Address => "ADDRESS after --at",
+            Valued::LoadAddress => "ADDRESS after --load-address",
             Valued::Color => "WHEN after --color",
             Valued::Names => "FILE after --names",
         }
@@ -170,11 +182,27 @@ fn joined<'a>(word: &'a str, options: Options) -> Option<(Valued, &'a str)> {
     if let Some(value) = value_after(word, "--at=", options.has_address) {
         return Some((Valued::Address, value));
     }
+    if let Some(value) = value_after(word, "--load-address=", options.has_load_address) {
+        return Some((Valued::LoadAddress, value));
+    }
     if let Some(value) = value_after(word, "--color=", true) {
         return Some((Valued::Color, value));
     }
     let value = value_after(word, "--names=", options.has_files)?;
     Some((Valued::Names, value))
+}
+
+impl<O> Call<'_, O> {
+    /// Whether it has `--at`.
+    ///
+    /// <details><summary>Proved</summary>
+    ///
+    /// - `result ≡ has_at self`
+    ///
+    /// </details>
+    pub fn has_at(&self) -> bool {
+        self.reads_addresses || !self.addresses.is_empty()
+    }
 }
 
 impl<'a, O: OwnOptions> Call<'a, O> {
@@ -193,8 +221,17 @@ impl<'a, O: OwnOptions> Call<'a, O> {
                 Some(number) => self.cpu = Cpu::Number(number),
                 None => return Err(Untaken::Misuse(Misuse::NoCpu(word))),
             },
+            Valued::Address if word == "-" => self.reads_addresses = true,
             Valued::Address => match address_in(word) {
-                Some(address) => self.address = Some(address),
+                Some(address) => {
+                    if self.addresses.try_push(address).is_err() {
+                        return Err(Untaken::Memory);
+                    }
+                }
+                None => return Err(Untaken::Misuse(Misuse::NoAddress(word))),
+            },
+            Valued::LoadAddress => match address_in(word) {
+                Some(address) => self.load_address = Some(address),
                 None => return Err(Untaken::Misuse(Misuse::NoAddress(word))),
             },
             Valued::Color => match Color::named(word) {
@@ -279,7 +316,10 @@ pub fn understand<'a, O: OwnOptions>(
     let call = Call {
         limit: None,
         cpu: Cpu::Any,
-        address: None,
+        addresses: Vec::new(),
+        reads_addresses: false,
+        load_address: None,
+        is_lossy: false,
         format: Format::Text,
         color: Color::Auto,
         own,
@@ -317,6 +357,7 @@ fn read<'a, O: OwnOptions>(
             Kind::Plain => is_plain = true,
             Kind::Asks(asked) => return Ok(Request::Asks(asked)),
             Kind::Nul => call.others.ends_with_nul = true,
+            Kind::Lossy => call.is_lossy = true,
             Kind::Form(format) => call.format = format,
             Kind::Valued(option) => before = Some(option),
             Kind::Other => {

@@ -19,8 +19,9 @@ use crate::generated::mach_cli::refusal::{Refusal, complain, refusal_of, refusal
 use crate::generated::mach_cli::sink::Sink;
 use crate::shim::io;
 use crate::shim::io::{BufWriter, Write};
+use goblin_mach::AllocError;
 use goblin_mach::fat::FatArch;
-use goblin_mach::{Content, Images, Input, InputItem, Mach, MachO, Result, describe};
+use goblin_mach::{Content, Error, Images, Input, InputItem, Mach, MachO, Result, describe};
 
 /// How a file is shown: what of its images a view prints, and how a sink puts this together.
 #[derive(Clone, Copy)]
@@ -30,6 +31,8 @@ pub(crate) struct Document<'a, V, K> {
     pub names: Names<'a>,
     /// The cpu whose images are selected.
     pub cpu: Cpu,
+    /// Whether an image that strict mode refuses is shown as lossy mode opens it.
+    pub is_lossy: bool,
     /// The number of lines for all images together, and of images (`most_images`).
     pub limit: usize,
     /// What is printed of an image.
@@ -56,6 +59,14 @@ fn open<'a>(bytes: &'a [u8]) -> Result<Subject<'a>> {
             let images = Input::Fat(container).images();
             Ok(Subject::Fat(images, records))
         }
+    }
+}
+
+// Returns nothing, or a refused allocation if the error is one.
+fn unless_memory(error: &Error) -> core::result::Result<(), AllocError> {
+    match error {
+        Error::Memory(_) => Err(AllocError),
+        _ => Ok(()),
     }
 }
 
@@ -102,18 +113,46 @@ impl<V: ImageView, K: Sink> Document<'_, V, K> {
     ) -> io::Result<Outcome> {
         let rt = self.rt;
         match open(bytes) {
-            Ok(Subject::Image(image)) => self.show_one(&image, out, err),
+            Ok(Subject::Image(image)) => self.show_one(&image, None, out, err),
             Ok(Subject::Fat(images, records)) => {
                 self.show_fat(bytes, images, records.as_slice(), out, err)
             }
-            Err(error) => self.refuse(refusal_of(bytes, &error), out, err),
+            Err(error) => {
+                let refusal = refusal_of(bytes, &error);
+                match self.open_lossy(bytes, &error) {
+                    Ok(Some(image)) => self.show_one(&image, Some(refusal), out, err),
+                    Ok(None) => self.refuse(refusal, out, err),
+                    Err(AllocError) => self.refuse(Refusal::Memory, out, err),
+                }
+            }
         }
     }
 
-    // Shows a file that is one image, if it is selected.
+    // Opens in lossy mode, if that is selected, an image that strict mode refused for this error. The error is a refused allocation.
+    fn open_lossy<'b>(
+        &self,
+        bytes: &'b [u8],
+        error: &Error,
+    ) -> core::result::Result<Option<MachO<'b>>, AllocError> {
+        unless_memory(error)?;
+        if !self.is_lossy {
+            return Ok(None);
+        }
+        let rt = self.rt;
+        match MachO::parse_lossy(bytes, 0) {
+            Ok(image) => Ok(Some(image)),
+            Err(again) => {
+                unless_memory(&again)?;
+                Ok(None)
+            }
+        }
+    }
+
+    // Shows a file that is one image, if it is selected, after the refusal of strict mode, if there is one.
     fn show_one<O: Write, E: Write>(
         &self,
         image: &MachO<'_>,
+        refused: Option<Refusal<'_>>,
         out: &mut O,
         err: &mut E,
     ) -> io::Result<Outcome> {
@@ -123,7 +162,7 @@ impl<V: ImageView, K: Sink> Document<'_, V, K> {
         }
         self.sink.begin_file(0, out)?;
         self.begin(true, Label::None, out)?;
-        let outcome = self.show_image(Label::None, image, self.limit, out, err)?;
+        let outcome = self.show_opened(Label::None, image, refused, self.limit, out, err)?;
         self.sink.end_file(false, "image", self.names.file, out)?;
         Ok(outcome)
     }
@@ -240,12 +279,37 @@ impl<V: ImageView, K: Sink> Document<'_, V, K> {
     ) -> io::Result<Outcome> {
         let rt = self.rt;
         match content.open() {
-            Ok(image) => self.show_image(label, &image, left, out, err),
+            Ok(image) => self.show_opened(label, &image, None, left, out, err),
             Err(error) => {
                 let refusal = refusal_of_content(content, &error);
-                self.refuse_image(label, refusal, left, out, err)
+                match self.open_lossy(content.bytes(), &error) {
+                    Ok(Some(image)) => {
+                        self.show_opened(label, &image, Some(refusal), left, out, err)
+                    }
+                    Ok(None) => self.refuse_image(label, refusal, left, out, err),
+                    Err(AllocError) => self.refuse_image(label, Refusal::Memory, left, out, err),
+                }
             }
         }
+    }
+
+    // Reports the refusal of strict mode, if there is one, and shows an image that is begun under this label.
+    fn show_opened<O: Write, E: Write>(
+        &self,
+        label: Label<'_>,
+        image: &MachO<'_>,
+        refused: Option<Refusal<'_>>,
+        left: usize,
+        out: &mut O,
+        err: &mut E,
+    ) -> io::Result<Outcome> {
+        let Some(refusal) = refused else {
+            return self.show_image(label, image, left, out, err);
+        };
+        complain(self.names, label, refusal, err)?;
+        let mut outcome = self.show_image(label, image, left, out, err)?;
+        outcome.whole = false;
+        Ok(outcome)
     }
 
     // Shows an image that is begun under this label.

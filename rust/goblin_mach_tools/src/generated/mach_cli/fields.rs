@@ -5,7 +5,9 @@
 use crate::generated::mach_cli::digits::{
     print_decimal, print_hexadecimal, print_signed, print_wide_hexadecimal,
 };
-use crate::generated::mach_cli::escaped::{print_escaped, print_wide_escaped};
+use crate::generated::mach_cli::escaped::{
+    EscapedBytes, print_bytes, print_escaped, print_wide_escaped,
+};
 use crate::generated::mach_cli::json::text::print_string;
 use crate::generated::mach_cli::record_fields::{
     RecordFields, print_record_members, print_record_pairs,
@@ -42,6 +44,11 @@ pub enum Value<'a> {
     SourceVersion(u64),
     /// A UUID.
     Uuid([u8; 16]),
+    /// Bytes of the file: a line has them as a text, in which each byte that is no part of a UTF-8 character is `\xNN`; an object
+    /// has two digits for each.
+    Bytes(&'a [u8]),
+    /// Bytes of the file, two digits for each.
+    Digits(&'a [u8]),
     /// Whether something is so, and the words that a line has for it.
     Flag {
         is_so: bool,
@@ -228,6 +235,11 @@ fn print_value<O: Write>(value: Value<'_>, out: &mut O) -> io::Result<()> {
             let uuid = UuidText(&uuid);
             write!(out, "{uuid}")
         }
+        Value::Bytes(bytes) => {
+            let text = EscapedBytes(bytes);
+            write!(out, "{text}")
+        }
+        Value::Digits(bytes) => print_bytes(bytes, out),
         Value::Flag { is_so, yes, no } => print_escaped(word_if(is_so, yes, no), out),
         Value::Flags {
             is_weak,
@@ -275,6 +287,11 @@ fn print_in_object<O: Write>(value: Value<'_>, out: &mut O) -> io::Result<()> {
         Value::Uuid(uuid) => {
             let uuid = UuidText(&uuid);
             write!(out, "\"{uuid}\"")
+        }
+        Value::Bytes(bytes) | Value::Digits(bytes) => {
+            out.write_all(b"\"")?;
+            print_bytes(bytes, out)?;
+            out.write_all(b"\"")
         }
         Value::Flag { is_so: true, .. } => out.write_all(b"true"),
         Value::Flag { is_so: false, .. } => out.write_all(b"false"),

@@ -27,7 +27,7 @@ pub fn cputype_in(word: &str) -> Option<u32> {
     u32::try_from(number_in(word, 8)?).ok()
 }
 
-/// Returns the address in an argument: `0x`, and 1 to 16 hexadecimal digits.
+/// Returns the address in an argument: 1 to 16 hexadecimal digits, perhaps after `0x`.
 ///
 /// <details><summary>Proved</summary>
 ///
@@ -35,5 +35,5 @@ pub fn cputype_in(word: &str) -> Option<u32> {
 ///
 /// </details>
 pub fn address_in(word: &str) -> Option<u64> {
-    number_in(word, 16)
+    value_of(word.strip_prefix("0x").unwrap_or(word), 16)
 }

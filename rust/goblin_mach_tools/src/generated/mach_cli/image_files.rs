@@ -16,6 +16,8 @@ pub struct ImageFiles<T, J> {
     pub program: Program,
     /// The cpu whose images are selected.
     pub cpu: Cpu,
+    /// Whether an image that strict mode refuses is shown as lossy mode opens it.
+    pub is_lossy: bool,
     /// The number of lines or rows of a file.
     pub limit: usize,
     /// Whether objects are shown.
@@ -34,13 +36,14 @@ impl<T: Copy, J: Copy> ImageFiles<T, J> {
     ///
     /// <details><summary>Proved</summary>
     ///
-    /// - `let c = call in result ≡ record { program = program; cpu = c.cpu; limit = limit_of c.limit most; is_json = is_json c.format; has_titles = true; lines = lines; objects = objects; }`
+    /// - `let c = call in result ≡ record { program = program; cpu = c.cpu; is_lossy = c.is_lossy; limit = limit_of c.limit most; is_json = is_json c.format; has_titles = true; lines = lines; objects = objects; }`
     ///
     /// </details>
     pub fn of<O>(program: Program, call: &Call<'_, O>, most: usize, lines: T, objects: J) -> Self {
         ImageFiles {
             program,
             cpu: call.cpu,
+            is_lossy: call.is_lossy,
             limit: call.limit.unwrap_or(most),
             is_json: call.format.is_json(),
             has_titles: true,
@@ -70,13 +73,14 @@ impl<T: Copy, J: Copy> ImageFiles<T, J> {
     ///
     /// <details><summary>Proved</summary>
     ///
-    /// - `let s = self in result ≡ record { program = s.program; cpu = s.cpu; limit = s.limit; view = s.lines; sink = record {} }`
+    /// - `let s = self in result ≡ record { program = s.program; cpu = s.cpu; is_lossy = s.is_lossy; limit = s.limit; view = s.lines; sink = record {} }`
     ///
     /// </details>
     pub fn as_text(&self) -> ImagesView<T, Text> {
         ImagesView {
             program: self.program,
             cpu: self.cpu,
+            is_lossy: self.is_lossy,
             limit: self.limit,
             view: self.lines,
             sink: Text,
@@ -87,13 +91,14 @@ impl<T: Copy, J: Copy> ImageFiles<T, J> {
     ///
     /// <details><summary>Proved</summary>
     ///
-    /// - `let s = self in result ≡ record { program = s.program; cpu = s.cpu; limit = s.limit; view = s.lines; sink = record {} }`
+    /// - `let s = self in result ≡ record { program = s.program; cpu = s.cpu; is_lossy = s.is_lossy; limit = s.limit; view = s.lines; sink = record {} }`
     ///
     /// </details>
     pub fn as_nm(&self) -> ImagesView<T, NmText> {
         ImagesView {
             program: self.program,
             cpu: self.cpu,
+            is_lossy: self.is_lossy,
             limit: self.limit,
             view: self.lines,
             sink: NmText,
@@ -104,13 +109,14 @@ impl<T: Copy, J: Copy> ImageFiles<T, J> {
     ///
     /// <details><summary>Proved</summary>
     ///
-    /// - `let s = self in result ≡ record { program = s.program; cpu = s.cpu; limit = s.limit; view = s.objects; sink = record {} }`
+    /// - `let s = self in result ≡ record { program = s.program; cpu = s.cpu; is_lossy = s.is_lossy; limit = s.limit; view = s.objects; sink = record {} }`
     ///
     /// </details>
     pub fn as_json(&self) -> ImagesView<J, Json> {
         ImagesView {
             program: self.program,
             cpu: self.cpu,
+            is_lossy: self.is_lossy,
             limit: self.limit,
             view: self.objects,
             sink: Json,

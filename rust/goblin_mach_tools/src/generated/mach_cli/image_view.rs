@@ -22,7 +22,7 @@ pub trait ImageView {
     ///
     /// <details><summary>Proved</summary>
     ///
-    /// - *shown*: for each `bytes : List ℕ`, if `IsImage bytes 0 image`, if `Ok(outcome)`: there is `text : List ℕ` with: `lines self file limit left bytes text outcome.whole outcome.left × Appends (O.contents out.old) (O.contents out.new) text`
+    /// - *shown*: for each `bytes : List ℕ`, if `IsLossyImage bytes 0 image`, if `Ok(outcome)`: there is `text : List ℕ` with: `lines self file limit left bytes text outcome.whole outcome.left × Appends (O.contents out.old) (O.contents out.new) text`
     /// - *memory*: if `Err(e)`: `IfMemory (Appends (O.contents out.old) (O.contents out.new) []) e`
     ///
     /// </details>

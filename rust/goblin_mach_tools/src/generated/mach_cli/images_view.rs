@@ -22,6 +22,8 @@ pub struct ImagesView<V, K> {
     pub program: Program,
     /// The cpu whose images are selected.
     pub cpu: Cpu,
+    /// Whether an image that strict mode refuses is shown as lossy mode opens it.
+    pub is_lossy: bool,
     /// The number of lines for all images of a file together.
     pub limit: usize,
     /// What is printed of an image.
@@ -39,6 +41,7 @@ impl<V: ImageView, K: Sink, W: Write> FileView<BufWriter<W>> for ImagesView<V, K
                 file: name,
             },
             cpu: self.cpu,
+            is_lossy: self.is_lossy,
             limit: most_items(self.limit, bytes),
             view: &self.view,
             sink: self.sink,

@@ -2,7 +2,7 @@
 //! What is wrong with the arguments of a call.
 #![forbid(unsafe_code)]
 
-use crate::generated::mach_cli::escaped::Escaped;
+use crate::generated::mach_cli::escaped::{Escaped, EscapedBytes};
 use crate::generated::mach_cli::word::NoText;
 use core::fmt;
 use core::fmt::{Display, Formatter};
@@ -25,6 +25,10 @@ pub enum Misuse<'a> {
     NoCpu(&'a str),
     /// What should be an address isn't one.
     NoAddress(&'a str),
+    /// A line of standard input that should be an address isn't one.
+    NoAddressLine(NoText<'a>),
+    /// Standard input is named twice.
+    InputTwice,
     /// What should say when output is coloured doesn't.
     NoColor(&'a str),
     /// An argument is missing: this one.
@@ -44,6 +48,11 @@ impl Display for Misuse<'_> {
             Misuse::NoNumber(word) => write!(f, "'{}' is not a number", Escaped(word)),
             Misuse::NoCpu(word) => write!(f, "'{}' is not a cpu", Escaped(word)),
             Misuse::NoAddress(word) => write!(f, "'{}' is not an address", Escaped(word)),
+            Misuse::NoAddressLine(line) => {
+                let (what, number, shown) = (line.what, line.number, EscapedBytes(line.bytes));
+                write!(f, "{what} {number}, '{shown}', is not an address")
+            }
+            Misuse::InputTwice => write!(f, "standard input can't be read twice"),
             Misuse::NoColor(word) => {
                 write!(f, "'{}' is not auto, always or never", Escaped(word))
             }

@@ -7,12 +7,14 @@ use crate::shim::rt::Eprint;
 use crate::shim::rt::HostRuntime;
 use alloc::vec::Vec;
 
-use crate::generated::mach_cli::call::{Asked, Call, Request, understand};
+use crate::generated::mach_cli::address::read::add_addresses;
+use crate::generated::mach_cli::call::{Asked, Call, Request, Untaken, understand};
 use crate::generated::mach_cli::color::Color;
 use crate::generated::mach_cli::complaint::{Complaint, Trouble};
 use crate::generated::mach_cli::flag::Help;
 use crate::generated::mach_cli::label::Label;
 use crate::generated::mach_cli::misuse::Misuse;
+use crate::generated::mach_cli::named::names_of;
 use crate::generated::mach_cli::names::Names;
 use crate::generated::mach_cli::options::{Format, Options, OwnOptions};
 use crate::generated::mach_cli::output::say;
@@ -163,6 +165,33 @@ impl Program {
                 let _ = rt.eprintln(format_args!("{names}: {error}"));
                 Err(2)
             }
+        }
+    }
+
+    /// Adds the addresses that standard input has, if a call reads them, to those of the call. If it can't be read, or a line is no
+    /// address, that is reported, and the error is the exit status.
+    ///
+    /// <details><summary>Proved</summary>
+    ///
+    /// - *kept*: `call_view call.new ≡ record (call_view call.old) { addresses = call.new.addresses.items }`
+    /// - *unread*: if `Err(e)`: `IsUnreadStatus e`
+    ///
+    /// </details>
+    pub fn read_addresses<O>(&self, rt: &HostRuntime, call: &mut Call<'_, O>) -> Result<(), u8> {
+        if !call.reads_addresses {
+            return Ok(());
+        }
+        if call.words.contains(&"-") || call.others.lists.contains(&"-") {
+            return Err(self.bad_usage(rt, Misuse::InputTwice));
+        }
+        let bytes = self.read(rt, "-")?;
+        let Ok(lines) = names_of(b'\n', &bytes) else {
+            return Err(self.out_of_memory(rt));
+        };
+        match add_addresses(lines.as_slice(), &mut call.addresses) {
+            Ok(()) => Ok(()),
+            Err(Untaken::Misuse(misuse)) => Err(self.bad_usage(rt, misuse)),
+            Err(Untaken::Memory) => Err(self.out_of_memory(rt)),
         }
     }
 

@@ -39,6 +39,7 @@ are not.
     version: "machaudit 0.3.0\n",
     options: crate::generated::mach_cli::Options {
         has_quiet: true,
+        has_lossy: false,
         ..crate::generated::mach_cli::Options::OF_IMAGES
     },
     words: "",

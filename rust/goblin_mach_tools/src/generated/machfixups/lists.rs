@@ -76,7 +76,7 @@ impl<'p, 'a, 'b> ImageRows<'p, 'a, 'b> {
     ///
     /// <details><summary>Proved</summary>
     ///
-    /// - for each `bytes : List ℕ`, `o : ℕ`, if `IsImage bytes o image`, there is `lists : PointerLists` with: `HasPointerLists bytes o lists × (libs : List (List ℕ)) × HasLibraries bytes o libs × (chained : Result (Option Fixups) Fault) × HasChainedFixups bytes o chained × (image_rows_left result ≡ rows_shown has_raw shown kinds (parts_view parts) (symbols_seen symbols) libs (readable_table chained) lists)`
+    /// - for each `bytes : List ℕ`, `o : ℕ`, if `IsLossyImage bytes o image`, there is `lists : PointerLists` with: `HasPointerLists bytes o lists × (libs : List (List ℕ)) × HasLibraries bytes o libs × (chained : Result (Option Fixups) Fault) × HasChainedFixups bytes o chained × (image_rows_left result ≡ rows_shown has_raw shown kinds (parts_view parts) (symbols_seen symbols) libs (readable_table chained) lists)`
     ///
     /// </details>
     pub fn of(

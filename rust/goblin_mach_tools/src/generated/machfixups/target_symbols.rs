@@ -6,8 +6,8 @@ use alloc::vec::Vec;
 use goblin_mach::internals::shim::TryGrow;
 
 use goblin_mach::AllocError;
+use goblin_mach::segment::NumberedSection;
 use goblin_mach::segment::ReadableSections;
-use goblin_mach::segment::{NumberedSection, Segment};
 use goblin_mach::symbols::MAX_SECT;
 use goblin_mach::{MachO, SymbolAt, SymbolMap};
 
@@ -31,26 +31,14 @@ pub struct TargetSymbols<'a, 'b> {
     sections: Vec<NameableSection>,
 }
 
-// Returns the number by which symbols name a section: counted from 1 over all segments.
-fn section_number(segments: &[Segment<'_>], section: &NumberedSection) -> usize {
-    let mut number = section.number as usize + 1;
-    for (index, segment) in segments.iter().enumerate() {
-        if index >= section.segment {
-            break;
-        }
-        number = number.saturating_add(segment.nsects as usize);
-    }
-    number
-}
-
-// Returns the sections of some segments that symbols can name, in order.
-fn nameable_sections(segments: &[Segment<'_>]) -> Result<Vec<NameableSection>, AllocError> {
+// Returns the sections of an image that symbols can name, in order.
+fn nameable_sections(image: &MachO<'_>) -> Result<Vec<NameableSection>, AllocError> {
     let mut sections = Vec::new();
-    for section in ReadableSections::new(segments) {
+    for section in ReadableSections::new(image.segments.as_slice()) {
         if sections.len() >= usize::from(MAX_SECT) {
             return Ok(sections);
         }
-        let number = section_number(segments, &section);
+        let number = image.section_number(&section);
         sections.try_push(NameableSection { section, number })?;
     }
     Ok(sections)
@@ -78,7 +66,7 @@ impl<'a, 'b> TargetSymbols<'a, 'b> {
         if !is_shown {
             return Ok(None);
         }
-        let sections = nameable_sections(image.segments.as_slice())?;
+        let sections = nameable_sections(image)?;
         match SymbolMap::new(image) {
             Ok(symbols) => Ok(Some(TargetSymbols { symbols, sections })),
             Err(_) => Err(AllocError),

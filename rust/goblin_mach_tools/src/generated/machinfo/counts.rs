@@ -97,7 +97,7 @@ impl Display for CountMembers {
 ///
 /// <details><summary>Proved</summary>
 ///
-/// - for each `bytes : List ℕ`, if `IsImage bytes 0 image`, if `Ok(whole)`: there is `text : List ℕ` with: `AreCounts form limit bytes words text whole × Appends (O.contents out.old) (O.contents out.new) text`
+/// - for each `bytes : List ℕ`, if `IsLossyImage bytes 0 image`, if `Ok(whole)`: there is `text : List ℕ` with: `AreCounts form limit bytes words text whole × Appends (O.contents out.old) (O.contents out.new) text`
 ///
 /// </details>
 pub fn print_counts<O: Write>(

@@ -36,7 +36,11 @@ impl ImageView for InfoObjects {
             Some(Choice::Exports) => write_exports(image, left, out),
             Some(Choice::Imports) => write_imports(image, left, out),
             Some(Choice::At(address)) => {
-                AddressObjectsOf { address }.show(file, image, limit, left, out)
+                let objects = AddressObjectsOf {
+                    addresses: &[address],
+                    load_address: None,
+                };
+                objects.show(file, image, limit, left, out)
             }
             None => Ok(write_summary(image, limit, left, out)?),
         }

@@ -5,6 +5,7 @@
 use crate::generated::mach_cli::{ItemList, Outcome};
 use crate::generated::machinfo::command_rows::CommandRows;
 use crate::generated::machinfo::commands::NumberedCommands;
+use crate::generated::machinfo::initializers::InitRows;
 use crate::generated::machinfo::lists::{
     BuildTools, DataInCode, FunctionStarts, IndirectSymbols, Libraries, LinkerOptions, Rebases,
     Slots, WeakBinds,
@@ -16,7 +17,9 @@ use crate::generated::machinfo::parts::{
 };
 use crate::generated::machinfo::providers::ProvidedSymbols;
 use crate::generated::machinfo::relocations::RelocationRows;
+use crate::generated::machinfo::section_bytes::ByteRows;
 use crate::generated::machinfo::sections::CountedSections;
+use crate::generated::machinfo::strings::StringRows;
 use crate::generated::machinfo::verdicts::{ExplainedFindings, HardeningFindings};
 use crate::generated::machinfo::word::Word;
 use crate::shim::io;
@@ -60,7 +63,7 @@ fn data_in_bounds(list: DataInCodeIterator<'_>) -> (DataInCode<'_>, usize) {
 ///
 /// <details><summary>Proved</summary>
 ///
-/// - for each `bytes : List ℕ`, if `IsImage bytes 0 image`, if `Ok(outcome)`: there is `text : List ℕ` with: `OfRows word bytes (λ rows past. U.writes how rows past text outcome) × Appends (O.contents out.old) (O.contents out.new) text`
+/// - for each `bytes : List ℕ`, if `IsLossyImage bytes 0 image`, if `Ok(outcome)`: there is `text : List ℕ` with: `OfRows word bytes (λ rows past. U.writes how rows past text outcome) × Appends (O.contents out.old) (O.contents out.new) text`
 ///
 /// </details>
 pub fn use_list<U: ListUse, O: Write>(
@@ -108,5 +111,8 @@ pub fn use_list<U: ListUse, O: Write>(
             let (list, past) = RelocationRows::of(image);
             how.of_list(list, past, out)
         }
+        Word::Strings => how.of_list(StringRows::of(image), 0, out),
+        Word::Inits => how.of_list(InitRows::of(image), 0, out),
+        Word::Bytes(name) => how.of_list(ByteRows::of(image, &name), 0, out),
     }
 }

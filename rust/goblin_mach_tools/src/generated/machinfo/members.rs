@@ -27,7 +27,7 @@ use goblin_mach::{Error, MachO, Result, describe};
 /// <details><summary>Proved</summary>
 ///
 /// - *written*: if `Ok`: `WritesSome (O.contents out.old) (O.contents out.new)`
-/// - *status*: for each `bytes : List ℕ`, if `IsImage bytes 0 image`, if `Ok(x)`: `IsFrontWhole limit bytes (facts_view image) (image_directory (bytes_view image) (commands_view image)) x`
+/// - *status*: for each `bytes : List ℕ`, if `IsLossyImage bytes 0 image`, if `Ok(x)`: `IsFrontWhole limit bytes (facts_view image) (image_directory (bytes_view image) (commands_view image)) x`
 ///
 /// </details>
 pub fn write_front<O: Write>(image: &MachO<'_>, limit: usize, out: &mut O) -> io::Result<bool> {

@@ -3,7 +3,7 @@
 //!
 //! With a word it prints one list instead, an item a line: load commands, function starts, stubs and pointers, indirect symbols,
 //! data in code, linker options, tools, notes, providers of symbols, libraries, the own name, rebases, weak binds, segments, sections,
-//! UUIDs, run paths, the entry point, the header, how it is hardened, relocations, exports or imports. Of a fat file it prints that of
+//! UUIDs, run paths, the entry point, the header, how it is hardened, relocations, strings, initializers, exports or imports. Of a fat file it prints that of
 //! each entry, or of the entries for one cpu, under a line that says which. With `at` and an address it prints what each image has there.
 //!
 //! It prints at most as many rows of a file as `--limit` says, and a line after those of an image that has more. A row that can't
@@ -34,6 +34,7 @@ mod commands;
 mod export_rows;
 mod exports;
 mod imports;
+mod initializers;
 mod list;
 mod list_lines;
 mod lists;
@@ -45,7 +46,9 @@ mod providers;
 mod registers;
 mod relocation_fields;
 mod relocations;
+mod section_bytes;
 mod sections;
+mod strings;
 mod verdicts;
 
 // What a call selects.
@@ -73,15 +76,19 @@ const PROGRAM: Program = Program {
 line for each item.
 ",
     usage: "usage: machinfo [--headings] [--explain] [--json] [--limit N]
-                [--arch NAME | --cputype 0xN] [--names FILE] [-0]
+                [--arch NAME | --cputype 0xN] [--lossy] [--names FILE] [-0]
                 [--color WHEN] [WORD] FILE..
        machinfo at ADDRESS | --at ADDRESS [--json]
-                [--arch NAME | --cputype 0xN] [--names FILE] [-0]
+                [--arch NAME | --cputype 0xN] [--lossy] [--names FILE] [-0]
+                [--color WHEN] FILE..
+       machinfo bytes SEGMENT SECTION [--json] [--limit N]
+                [--arch NAME | --cputype 0xN] [--lossy] [--names FILE] [-0]
                 [--color WHEN] FILE..
        machinfo -h | --help | --version
 WORD: commands, starts, slots, indirect, data, options, tools, notes, providers,
       libraries, id, rebases, weak, segments, sections, uuid, rpaths,
-      entrypoint, header, security, relocations, exports, imports
+      entrypoint, header, security, relocations, strings, inits, exports,
+      imports
 ",
     version: "machinfo 0.3.0\n",
     options: Options {
@@ -89,6 +96,7 @@ WORD: commands, starts, slots, indirect, data, options, tools, notes, providers,
         ..Options::OF_IMAGES
     },
     words: "  at ADDRESS                print what each image has at an address
+  bytes SEGMENT SECTION     print the bytes of a section
   commands                  print the load commands with their fields
   starts                    print the addresses of the functions
   slots                     print the stubs and symbol pointers
@@ -110,6 +118,8 @@ WORD: commands, starts, slots, indirect, data, options, tools, notes, providers,
   header                    print the header
   security                  print how the image is hardened
   relocations               print the relocations of the sections
+  strings                   print the strings of the sections
+  inits                     print the functions that dyld calls before main
   exports                   print what the image exports
   imports                   print what dyld binds
 ",
@@ -142,6 +152,11 @@ fn answer(rt: &HostRuntime, call: &Call<'_, InfoOptions>) -> Result<u8, u8> {
     show_call(rt, call, &mut out)
 }
 
+// Returns the last address after `--at`.
+fn last_address(call: &Call<'_, InfoOptions>) -> Option<u64> {
+    call.addresses.last().copied()
+}
+
 // Shows what the arguments of a call select, of all files that it names, and returns the worst status.
 fn show_call<W: Write>(
     rt: &HostRuntime,
@@ -149,7 +164,10 @@ fn show_call<W: Write>(
     out: &mut BufWriter<Titled<W>>,
 ) -> Result<u8, u8> {
     let words = call.words.as_slice();
-    let selection = match selection_of(call.address, words) {
+    if call.reads_addresses {
+        return Err(PROGRAM.bad_usage(rt, Misuse::NoAddress("-")));
+    }
+    let selection = match selection_of(last_address(call), words) {
         Ok(selection) => selection,
         Err(misuse) => return Err(PROGRAM.bad_usage(rt, misuse)),
     };

@@ -78,7 +78,7 @@ impl<L: Label> FieldsForm for After<L> {
 ///
 /// <details><summary>Proved</summary>
 ///
-/// - for each `bytes : List ℕ`, if `IsImage bytes 0 image`, if `Ok(whole)`: there is `text : List ℕ` with: `AreLinesOfParts limit bytes text whole × Appends (O.contents out.old) (O.contents out.new) text`
+/// - for each `bytes : List ℕ`, if `IsLossyImage bytes 0 image`, if `Ok(whole)`: there is `text : List ℕ` with: `AreLinesOfParts limit bytes text whole × Appends (O.contents out.old) (O.contents out.new) text`
 ///
 /// </details>
 pub fn print_parts<O: Write>(image: &MachO<'_>, limit: usize, out: &mut O) -> io::Result<bool> {

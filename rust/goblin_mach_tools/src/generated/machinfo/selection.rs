@@ -3,7 +3,8 @@
 #![forbid(unsafe_code)]
 
 use crate::generated::mach_cli::{Misuse, address_in};
-use crate::generated::machinfo::word::Choice;
+use crate::generated::machinfo::section_bytes::SectionName;
+use crate::generated::machinfo::word::{Choice, Word};
 
 /// What a call selects, and the files that its arguments name.
 #[derive(Clone, Copy)]
@@ -19,7 +20,7 @@ pub struct Selection<'a, 'b> {
 /// <details><summary>Proved</summary>
 ///
 /// - *selected*: `option_map words.selection_view (result_ok result) ≡ words.selected address arguments`
-/// - *misuse*: if `Err(e)`: `words.IsNoAddress (drop 1 arguments) e`
+/// - *misuse*: if `Err(e)`: `words.IsNoSelection (drop 1 arguments) e`
 ///
 /// </details>
 pub fn selection_of<'a, 'b>(
@@ -32,6 +33,7 @@ pub fn selection_of<'a, 'b>(
             files: arguments,
         }),
         (None, [first, others @ ..]) if is_at(first) => selection_at(others),
+        (None, [first, others @ ..]) if is_bytes(first) => selection_of_bytes(others),
         _ => Ok(Selection {
             choice: selected_by(arguments),
             files: files_named(arguments),
@@ -55,6 +57,25 @@ fn selection_at<'a, 'b>(arguments: &'a [&'b str]) -> Result<Selection<'a, 'b>, M
             files,
         }),
         None => Err(Misuse::NoAddress(word)),
+    }
+}
+
+// Whether an argument is `bytes`.
+fn is_bytes(argument: &str) -> bool {
+    argument == "bytes"
+}
+
+// Returns what the arguments after `bytes` select: the section that the first two name.
+fn selection_of_bytes<'a, 'b>(arguments: &'a [&'b str]) -> Result<Selection<'a, 'b>, Misuse<'b>> {
+    let [segment, section, files @ ..] = arguments else {
+        return Err(Misuse::Missing("SEGMENT SECTION after bytes"));
+    };
+    match SectionName::of(segment, section) {
+        Some(name) => Ok(Selection {
+            choice: Some(Choice::Word(Word::Bytes(name))),
+            files,
+        }),
+        None => Err(Misuse::UnknownWord(section)),
     }
 }
 

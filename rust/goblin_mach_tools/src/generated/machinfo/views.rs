@@ -47,7 +47,8 @@ impl ImageView for InfoLines {
             Some(Choice::Imports) => print_imports(has_headings, image, limit, left, out),
             Some(Choice::At(address)) => {
                 let line = AddressLinesOf {
-                    address,
+                    addresses: &[address],
+                    load_address: None,
                     has_file: false,
                     is_raw: false,
                 };

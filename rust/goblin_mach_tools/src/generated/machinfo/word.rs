@@ -2,6 +2,8 @@
 //! The words that select a list.
 #![forbid(unsafe_code)]
 
+use crate::generated::machinfo::section_bytes::SectionName;
+
 /// What a call shows of an image in place of its summary.
 #[derive(Clone, Copy, PartialEq)]
 pub enum Choice {
@@ -64,6 +66,12 @@ pub enum Word {
     SecurityExplained,
     /// The relocations of its sections.
     Relocations,
+    /// The strings of its sections.
+    Strings,
+    /// The functions that dyld calls before its main function.
+    Inits,
+    /// The bytes of its first section with these names.
+    Bytes(SectionName),
 }
 
 impl Choice {
@@ -128,6 +136,8 @@ impl Word {
             "header" => Some(Word::Header),
             "security" => Some(Word::Security),
             "relocations" => Some(Word::Relocations),
+            "strings" => Some(Word::Strings),
+            "inits" => Some(Word::Inits),
             _ => None,
         }
     }
@@ -164,6 +174,9 @@ impl Word {
             Word::Security => "security",
             Word::SecurityExplained => "security",
             Word::Relocations => "relocations",
+            Word::Strings => "strings",
+            Word::Inits => "inits",
+            Word::Bytes(_) => "bytes",
         }
     }
 
@@ -205,6 +218,9 @@ impl Word {
             Word::Relocations => {
                 "SEGMENT      SECTION          ADDRESS  TYPE                    TARGET PCREL SIZE"
             }
+            Word::Strings => "ADDRESS     SECTION          STRING",
+            Word::Inits => "ADDRESS     SECTION          TARGET",
+            Word::Bytes(_) => "ADDRESS     BYTES                            TEXT",
         }
     }
 

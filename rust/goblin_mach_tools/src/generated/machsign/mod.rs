@@ -43,7 +43,7 @@ const PROGRAM: Program = Program {
 them. It doesn't check who signed.
 ",
     usage: "usage: machsign [--json] [--limit N] [--arch NAME | --cputype 0xN]
-                [--names FILE] [-0] [--color WHEN] FILE..
+                [--lossy] [--names FILE] [-0] [--color WHEN] FILE..
        machsign --entitlements [--arch NAME | --cputype 0xN] FILE
        machsign -h | --help | --version
 ",

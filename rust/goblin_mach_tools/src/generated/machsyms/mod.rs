@@ -3,7 +3,7 @@
 //! are sorted by name, without debugging entries; with `-ap` it prints all in table order. Of a fat file it prints those of each
 //! entry, or of the entries for one cpu, under the heading that `llvm-nm` has. Options of `nm` select other symbols, another order,
 //! or another form of lines. With `--json` it writes one object for each file instead, on a line. With `--at` it prints what each
-//! image has at an address: the section, the nearest symbol and the function.
+//! image has at addresses: the section, the nearest symbol and the function of each.
 //!
 //! Its lines differ from those of `llvm-nm`:
 //! - A symbol whose record or name can't be read has a line with the error, after all others if they are sorted. `llvm-nm` prints
@@ -52,16 +52,17 @@ const PROGRAM: Program = Program {
 same options. By default it sorts by name and shows no debugging symbols.
 ",
     usage: "usage: machsyms [-AUagjmnoprux] [--raw] [--json] [--limit N]
-                [--arch NAME | --cputype 0xN] [--names FILE [-0]]
+                [--arch NAME | --cputype 0xN] [--lossy] [--names FILE [-0]]
                 [--color WHEN] FILE..
-       machsyms --at ADDRESS [-A] [--raw] [--json]
-                [--arch NAME | --cputype 0xN] [--names FILE [-0]]
-                [--color WHEN] FILE..
+       machsyms --at ADDRESS [--at ADDRESS].. [--load-address A] [-A]
+                [--raw] [--json] [--arch NAME | --cputype 0xN] [--lossy]
+                [--names FILE [-0]] [--color WHEN] FILE..
        machsyms -h | --help | --version
 ",
     version: "machsyms 0.3.0\n",
     options: Options {
         has_address: true,
+        has_load_address: true,
         ..Options::OF_IMAGES
     },
     words: "",
@@ -79,6 +80,8 @@ same options. By default it sorts by name and shows no debugging symbols.
   -o                        print the file name before each line
       --raw                 print names as they are in the file
       --limit N             print at most N symbols per file
+      --at ADDRESS          print what is at an address; - reads more from stdin
+      --load-address A      the address at which an image's first byte is loaded
 ",
     examples: "  machsyms -gU libz.dylib         what a library defines for others
   machsyms --at 0x100000460 prog  what a program has at an address
@@ -95,29 +98,34 @@ pub fn main(rt: HostRuntime) -> ExitCode {
 // Runs the program with its words.
 fn start(rt: &HostRuntime) -> Result<u8, u8> {
     let words = PROGRAM.words(rt)?;
-    let call = PROGRAM.call(rt, SymbolOptions::none(), &words)?;
-    show_files(rt, &call)
+    let mut call = PROGRAM.call(rt, SymbolOptions::none(), &words)?;
+    show_files(rt, &mut call)
 }
 
 // Shows the selected symbols of files in order, and returns the worst status.
-fn show_files(rt: &HostRuntime, call: &Call<'_, SymbolOptions>) -> Result<u8, u8> {
+fn show_files(rt: &HostRuntime, call: &mut Call<'_, SymbolOptions>) -> Result<u8, u8> {
     if call.words.is_empty() && call.others.is_empty() {
         return Err(PROGRAM.bad_usage(rt, Misuse::Missing("FILE")));
     }
+    if call.load_address.is_some() && !call.has_at() {
+        return Err(PROGRAM.bad_usage(rt, Misuse::Missing("--at ADDRESS")));
+    }
+    PROGRAM.read_addresses(rt, call)?;
     let mut out = PROGRAM.output(rt, call.color, call.format)?;
     show_call(rt, call, &mut out)
 }
 
-// Shows all files that a call names, by the address or by the letters that it has, and returns the worst status.
+// Shows all files that a call names, by the addresses or by the letters that it has, and returns the worst status.
 fn show_call<W: Write>(
     rt: &HostRuntime,
     call: &Call<'_, SymbolOptions>,
     out: &mut BufWriter<Titled<W>>,
 ) -> Result<u8, u8> {
     let (files, others) = (&call.words, &call.others);
-    match call.address {
-        Some(address) => show_at(rt, &shown_at(call, address), files, others, out),
-        None => show(rt, &shown_by(call), files, others, out),
+    if call.has_at() {
+        show_at(rt, &shown_at(call), files, others, out)
+    } else {
+        show(rt, &shown_by(call), files, others, out)
     }
 }
 
@@ -132,27 +140,26 @@ fn shown_by(call: &Call<'_, SymbolOptions>) -> ImageFiles<SymbolLinesOf, SymbolO
     }
 }
 
-// Returns how a call shows its files by an address: what each image has there, as a line or as an object.
-fn shown_at(
-    call: &Call<'_, SymbolOptions>,
-    address: u64,
-) -> ImageFiles<AddressLinesOf, AddressObjectsOf> {
+// Returns how a call shows its files by addresses: what each image has there, as lines or as objects.
+fn shown_at<'t>(
+    call: &'t Call<'_, SymbolOptions>,
+) -> ImageFiles<AddressLinesOf<'t>, AddressObjectsOf<'t>> {
     let SymbolOptions { letters, is_raw } = call.own;
     let has_file = letters.has_file;
+    let (addresses, load_address) = (call.addresses.as_slice(), call.load_address);
     let lines = AddressLinesOf {
-        address,
+        addresses,
+        load_address,
         has_file,
         is_raw,
     };
+    let arrays = AddressObjectsOf {
+        addresses,
+        load_address,
+    };
     ImageFiles {
         has_titles: !has_file,
-        ..ImageFiles::of(
-            PROGRAM,
-            call,
-            usize::MAX,
-            lines,
-            AddressObjectsOf { address },
-        )
+        ..ImageFiles::of(PROGRAM, call, usize::MAX, lines, arrays)
     }
 }
 
@@ -172,10 +179,10 @@ fn show<W: Write>(
     }
 }
 
-// Shows what the images of files have at an address, in order, and returns the worst status.
+// Shows what the images of files have at addresses, in order, and returns the worst status.
 fn show_at<W: Write>(
     rt: &HostRuntime,
-    shown: &ImageFiles<AddressLinesOf, AddressObjectsOf>,
+    shown: &ImageFiles<AddressLinesOf<'_>, AddressObjectsOf<'_>>,
     files: &[&str],
     others: &Others<'_>,
     out: &mut BufWriter<Titled<W>>,

@@ -1,4 +1,4 @@
-use Rattle.std.proofs.Common.{◌++◌, ◌∷◌, [], ◌∙◌, ap, Ok, sym, append_assoc, arith}
+use Rattle.std.proofs.Common.{◌++◌, ◌∷◌, [], ◌∙◌, ap, Ok, sym, arith}
 use Rattle.mach_load.specs.TablesLeft.{starts_left, start_read}
 use Rattle.goblin_mach.proofs.NearestItems.{one_after, starts-fault, starts-more, around-next, around-all, no_starts}
 use Rattle.goblin_mach.proofs.macho.nearest.starts_around.Goals as goal

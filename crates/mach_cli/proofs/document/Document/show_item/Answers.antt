@@ -5,6 +5,7 @@ use Rattle.mach_base.proofs.Written.{Appends-none}
 use Rattle.mach_base.specs.Fault.{Fault, fault_of}
 use Rattle.mach_base.specs.Items.{read_as}
 use Rattle.mach_base.specs.Words.{described, words_of}
+use Rattle.goblin_mach.specs.Image.{ImageFault}
 use Rattle.goblin_mach.specs.Items.{ContentView, content_view, no_member}
 use Rattle.goblin_mach.specs.ItemsLeft.{input_item_read}
 use Rattle.goblin_mach.specs.declared.item.Content.{Content}
@@ -40,7 +41,8 @@ returns-in-Err g c =
     let none = not_shown w label (words_of (described c.describe.result)) c.args.left in
     let here : x.content ≡ Err (fault_of e) = ap (read_as content_view) c.in-Err.is in
     let refused = refused_item w c.args.left label (Err (fault_of e)) e (words_of (described c.describe.result))
-    (ErrorMeets-reported (FaultOfItem (Err (fault_of e))) e refl) (ap words_of c.describe.ensures)
+    (ErrorMeets-reported (FaultOfItem ImageFault (Err (fault_of e))) e refl)
+    (λ is reported. (fault_of e, refl)) (ap words_of c.describe.ensures)
     in
     prints_one c.refuse_image.result _ _ _ _ (ShowsItem w c.args.left label None x.content) none
     (subst (λ (content : Result ContentView Fault). ShowsItem w c.args.left label None content none) (sym here) refused)

@@ -1,12 +1,10 @@
-use Rattle.std.proofs.Common.{ℕ, List, Option, subst}
-use Rattle.goblin_mach.proofs.ImageFacts.{strict-lossy}
+use Rattle.std.proofs.Common.{List, subst}
 use Rattle.goblin_mach.specs.OpenImage.{commands_view}
 use Rattle.goblin_mach.specs.AllStretches.{SegmentStretches, parts_view}
 use Rattle.machfixups.specs.ImageLines.{ArePointerLines}
 use Rattle.machfixups.specs.KeptFixups.{kinds_in_lines}
 use Rattle.machfixups.specs.Rows.{PointerRows, line_rows, readable_table, rows_shown}
 use Rattle.machfixups.specs.declared.kept_fixups.KindsOfLists.{KindsOfLists}
-use Rattle.machfixups.specs.TargetSymbols.{PointerSymbol}
 use Rattle.machfixups.specs.TargetViews.{symbols_of_image, symbols_seen}
 use Rattle.machfixups.specs.declared.rows.Selection.{Selection}
 use Rattle.machfixups.proofs.Facts.{has_target_symbols}
@@ -43,7 +41,7 @@ returns-clause-shown g c = λ bytes opened.
         chained = listed.4;
         has_chained = listed.5;
         symbols = symbols;
-        has_symbols = has_target_symbols bytes 0 m (strict-lossy bytes 0 m opened);
+        has_symbols = has_target_symbols bytes 0 m opened;
         lines = subst in_parts known.2 (subst by_shown c.shown-shown.ensures (subst over same
             (subst in_kinds c.kinds_in_lines.ensures (subst over listed.6 written.lines))));
       },

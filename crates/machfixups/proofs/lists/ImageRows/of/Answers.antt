@@ -22,9 +22,8 @@ use Rattle.machfixups.proofs.Facts.{has_chained_fixups, has_fixups, has_librarie
 use Rattle.machfixups.proofs.lists.ImageRows.of.Goals as goal
 
 pub returns : goal.returns
-returns g c = λ bytes o opened.
+returns g c = λ bytes o p.
     let m = c.args.image.now in
-    let p = c.strict_image_is_lossy.ensures bytes o opened in
     let fixups = image_fixups_left c.fixups.result in
     let lists : PointerLists = record {
       rebases = opcode_rebases_left c.opcode_rebases.result;

@@ -1,4 +1,4 @@
-use Rattle.std.proofs.Common.{◌∙◌, sym, ap}
+use Rattle.std.proofs.Common.{◌∙◌, sym}
 use Rattle.goblin_mach.specs.OpenImage.{segments_view}
 use Rattle.goblin_mach.specs.SymbolMaps.{image_of_map, image_symbols}
 use Rattle.machfixups.proofs.TargetSections.{by_section, no_section}

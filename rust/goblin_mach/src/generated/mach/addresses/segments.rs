@@ -92,7 +92,7 @@ impl AllStretches {
     ///
     /// <details><summary>Proved</summary>
     ///
-    /// - for each `bytes : List ℕ`, `o : ℕ`, if `IsImage bytes o image`, if `Ok(parts)`: there is `segments : List SegmentView` with: `HasSegments bytes o segments × (parts_view parts ≡ parts_of (length bytes) segments)`
+    /// - for each `bytes : List ℕ`, `o : ℕ`, if `IsLossyImage bytes o image`, if `Ok(parts)`: there is `segments : List SegmentView` with: `HasSegments bytes o segments × (parts_view parts ≡ parts_of (length bytes) segments)`
     ///
     /// </details>
     pub fn of_image(image: &MachO<'_>) -> Result<Self, AllocError> {

@@ -2,8 +2,9 @@
 //! Sections in their 64-bit form, numbered over all segments of an image.
 #![forbid(unsafe_code)]
 
-use crate::generated::mach_base::{Container, Ctx, Record, Result};
+use crate::generated::mach_base::{Container, Ctx, Record, Result, bytes_at, read_text};
 use crate::generated::mach_parts::segment::Segment;
+use crate::generated::mach_parts::segment::section::is_of_zeros;
 use crate::generated::mach_parts::segment::sections::place_of;
 use crate::generated::mach_records::{Section32, Section64};
 
@@ -30,6 +31,48 @@ impl NumberedSection {
     pub fn holds(&self, address: u64) -> bool {
         let section = &self.section;
         section.addr <= address && address - section.addr < section.size
+    }
+
+    /// Returns the section's name: the text with which `sectname` begins.
+    ///
+    /// <details><summary>Proved</summary>
+    ///
+    /// - `Reads (λ name. name) result (text_at self.section.sectname 0)`
+    ///
+    /// </details>
+    pub fn name(&self) -> Result<&str> {
+        read_text(&self.section.sectname, 0)
+    }
+
+    /// Returns the name of the section's segment: the text with which `segname` begins.
+    ///
+    /// <details><summary>Proved</summary>
+    ///
+    /// - `Reads (λ name. name) result (text_at self.section.segname 0)`
+    ///
+    /// </details>
+    pub fn segname(&self) -> Result<&str> {
+        read_text(&self.section.segname, 0)
+    }
+
+    /// Returns the section's bytes among those of its image; none if it is zero-filled. Fails if they don't lie in the bytes.
+    ///
+    /// <details><summary>Proved</summary>
+    ///
+    /// - `Reads (λ found. found) result (bytes_of_section bytes self.section)`
+    ///
+    /// </details>
+    pub fn data_in<'a>(&self, bytes: &'a [u8]) -> Result<&'a [u8]> {
+        let Section64 {
+            flags,
+            offset,
+            size,
+            ..
+        } = self.section;
+        if is_of_zeros(flags) {
+            return Ok(&[]);
+        }
+        bytes_at(bytes, offset as usize, size as usize)
     }
 }
 

@@ -101,12 +101,16 @@ impl Section {
     }
 }
 
-// Whether a section with these flags consists of zeros that take no bytes of the file.
-fn is_of_zeros(flags: u32) -> bool {
-    matches!(
-        flags & SECTION_TYPE,
-        S_ZEROFILL | S_GB_ZEROFILL | S_THREAD_LOCAL_ZEROFILL
-    )
+/// Whether a section with these flags consists of zeros that take no bytes of the file.
+///
+/// <details><summary>Proved</summary>
+///
+/// - `result ≡ is_zero_fill flags`
+///
+/// </details>
+pub fn is_of_zeros(flags: u32) -> bool {
+    let kind = flags & SECTION_TYPE;
+    kind == S_ZEROFILL || kind == S_GB_ZEROFILL || kind == S_THREAD_LOCAL_ZEROFILL
 }
 
 impl Default for Section {

@@ -9,7 +9,7 @@ use Rattle.goblin_mach.proofs.addresses.segments.AllStretches.of_image.Goals as 
 pub returns : goal.returns
 returns g c = λ bytes o p.
     let held = segments_view c.args.image.now in
-    let has = (c.segments_of_image.ensures.strict bytes o p held).1 refl in
+    let has = (c.segments_of_image.ensures.lossy bytes o p held).1 refl in
     let many = ap length (c.bytes-room.ensures ∙ p.fields.bytes_is) in
     let all = ap (λ (ss : List Segment). parts_of (length c.bytes-room.result.now) (map segment_view ss)) c.as_slice.ensures
     ∙ ap (λ (n : ℕ). parts_of n held) many in
