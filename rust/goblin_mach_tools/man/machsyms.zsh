@@ -24,7 +24,7 @@ _arguments \
     '--raw[print names as they are in the file]' \
     '--limit[print at most N symbols per file]:N: ' \
     '--at[print what is at an address; - reads more from stdin]:ADDRESS: ' \
-    '--load-address[the address at which an image's first byte is loaded]:A: ' \
+    '--load-address[the address at which an image'\''s first byte is loaded]:A: ' \
     '--json[print one JSON object per file, each on a line]' \
     '--names[also read the files that FILE lists, one name a line]:FILE:_files' \
     '-0[names in the lists of --names end with NUL]' \
