@@ -2,6 +2,10 @@
 use Rattle.std.specs.Prelude.{ℕ, List, codes, bytes_eq, Bool, true, false, if◌then◌else◌}
 use Rattle.machinfo.specs.declared.arguments.InfoOptions.{InfoOptions}
 
+-- before the first option
+abbrev pub no_info_options : InfoOptions
+no_info_options = record { has_headings = false; is_explained = false }
+
 -- The options after an argument, and whether it is one of them.
 abbrev pub info_option_taken : InfoOptions → List ℕ → InfoOptions × Bool
 info_option_taken o argument =

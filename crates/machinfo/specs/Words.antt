@@ -164,10 +164,10 @@ IsWordWrong (Some prints) word misuse = (instead : Bor (List ℕ)) × (instead.n
 IsWordWrong None word misuse = misuse ≡ UnknownWord word
 
 -- This is wrong with a call that selects nothing: the first of its files, which others follow, is a wrong word of small letters alone.
-abbrev pub IsMisspelled : Option Choice → List (Bor (List ℕ)) → Misuse → Type 0
-IsMisspelled choice [] misuse = ⊥
-IsMisspelled choice (first ∷ []) misuse = ⊥
-IsMisspelled choice (first ∷ next ∷ others) misuse =
+abbrev pub HasWrongWord : Option Choice → List (Bor (List ℕ)) → Misuse → Type 0
+HasWrongWord choice [] misuse = ⊥
+HasWrongWord choice (first ∷ []) misuse = ⊥
+HasWrongWord choice (first ∷ next ∷ others) misuse =
     IsWordWrong (prints_among lists_elsewhere first.now) first misuse × (choice ≡ None) × (list_all is_small_letter first.now ≡ true)
 
 -- ---- what the code's values mean

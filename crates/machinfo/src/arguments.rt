@@ -1,5 +1,8 @@
 //! The options that only this program has.
 
+ghost use Rattle.std.specs.Prelude.{◌≡◌};
+ghost use Rattle.machinfo.specs.InfoOptions.{no_info_options};
+
 use mach_cli::OwnOptions;
 
 /// What a call's own options say.
@@ -12,11 +15,15 @@ pub struct InfoOptions {
 }
 
 impl InfoOptions {
-    /// None of these options.
-    pub const NONE: InfoOptions = InfoOptions {
-        has_headings: false,
-        is_explained: false,
-    };
+    /// Returns none of these options.
+    pub fn none() -> InfoOptions
+        ensures { result ≡ no_info_options }
+    {
+        InfoOptions {
+            has_headings: false,
+            is_explained: false,
+        }
+    }
 }
 
 impl OwnOptions for InfoOptions {

@@ -145,7 +145,7 @@ fn main(rt: HostRuntime) -> ExitCode {
 // Runs the program with its words.
 fn start(rt: &HostRuntime) -> Result<u8, u8> {
     let words = PROGRAM.words(rt)?;
-    let call = PROGRAM.call(rt, InfoOptions::NONE, &words)?;
+    let call = PROGRAM.call(rt, InfoOptions::none(), &words)?;
     answer(rt, &call)
 }
 
@@ -182,7 +182,7 @@ fn show_call<W: Write + Drop>(
     if selection.files.is_empty() && call.others.is_empty() {
         return Err(PROGRAM.bad_usage(rt, Misuse::Missing("FILE")));
     }
-    if let Some(misuse) = misspelled(rt, selection) {
+    if let Some(misuse) = wrong_word(rt, selection) {
         return Err(PROGRAM.bad_usage(rt, misuse));
     }
     let shown = shown_by(call, selection.choice, rt.stdout().is_terminal());
@@ -191,8 +191,8 @@ fn show_call<W: Write + Drop>(
 
 // Returns what is wrong with a first file before others, if nothing is selected: it is of small letters alone, and it is a list of
 // another program or similar to a word.
-fn misspelled<'a>(rt: &HostRuntime, selection: Selection<'_, 'a>) -> Option<Misuse<'a>>
-    ensures { IfSome result (words.IsMisspelled selection.entry.choice selection.entry.files.now) }
+fn wrong_word<'a>(rt: &HostRuntime, selection: Selection<'_, 'a>) -> Option<Misuse<'a>>
+    ensures { IfSome result (words.HasWrongWord selection.entry.choice selection.entry.files.now) }
 {
     let [first, _, ..] = selection.files else {
         return None;
