@@ -152,7 +152,7 @@ fn start(rt: &HostRuntime) -> Result<u8, u8> {
 // Runs a parsed call.
 fn answer(rt: &HostRuntime, call: &Call<'_, Global, InfoOptions>) -> Result<u8, u8> {
     let mut out = PROGRAM.output(rt, call.color, call.format)?;
-    show_call(rt, call, &mut out)
+    show_call(rt, call, rt.stdout().is_terminal(), &mut out)
 }
 
 // Returns the last address after `--at`.
@@ -162,14 +162,15 @@ fn last_address(call: &Call<'_, Global, InfoOptions>) -> Option<u64>
     call.addresses.last().copied()
 }
 
-// Shows what the arguments of a call select, of all files that it names, and returns the worst status.
+// Shows what the arguments of a call select, of all files that it names, perhaps on a terminal, and returns the worst status.
 fn show_call<W: Write + Drop>(
     rt: &HostRuntime,
     call: &Call<'_, Global, InfoOptions>,
+    is_terminal: bool,
     out: &mut BufWriter<Titled<W>>,
 ) -> Result<u8, u8>
-    ensures lines { is_json call.now.format ≡ false → IfOk result (ShowsInfoLines W.contents call.now out.old out.new) }
-    ensures objects { is_json call.now.format ≡ true → IfOk result (ShowsInfoObjects W.contents call.now out.old out.new) }
+    ensures lines { is_json call.now.format ≡ false → IfOk result (ShowsInfoLines W.contents is_terminal call.now out.old out.new) }
+    ensures objects { is_json call.now.format ≡ true → IfOk result (ShowsInfoObjects W.contents is_terminal call.now out.old out.new) }
 {
     let words = call.words.as_slice();
     if call.reads_addresses {
@@ -185,7 +186,7 @@ fn show_call<W: Write + Drop>(
     if let Some(misuse) = wrong_word(rt, selection) {
         return Err(PROGRAM.bad_usage(rt, misuse));
     }
-    let shown = shown_by(call, selection.choice, rt.stdout().is_terminal());
+    let shown = shown_by(call, selection.choice, is_terminal);
     show(rt, &shown, selection.files, &call.others, out)
 }
 
@@ -217,7 +218,7 @@ fn shown_by(
     choice: Option<Choice>,
     is_terminal: bool,
 ) -> ImageFiles<InfoLines, InfoObjects>
-    ensures { AreInfoFiles call.now choice result }
+    ensures { AreInfoFiles is_terminal call.now choice result }
 {
     let lines = InfoLines {
         choice: explained(call.own.is_explained, choice),
