@@ -76,7 +76,7 @@ no_feed-wide width (version n) = no_feed-version n
 no_feed-wide width (source_version n) = no_feed-source_version n
 no_feed-wide width (uuid u) = no_feed-uuid u
 no_feed-wide width (held_bytes bytes) = no_feed-escaped_bytes bytes
-no_feed-wide width (held_digits bytes) = no_feed-bytes bytes
+no_feed-wide width (held_digits bytes) = search (no_feeds, no_feed-bytes, no_feed-spaces, rules)
 no_feed-wide width (flag is_so word other) = no_feed-escaped (word_if is_so word other)
 no_feed-wide width (flags is_weak is_lazy auth) = no_feed-flags is_weak is_lazy auth
 

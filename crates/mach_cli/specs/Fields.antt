@@ -140,12 +140,13 @@ value_in_line (flags is_weak is_lazy auth) = flags_text is_weak is_lazy auth
 abbrev pub spaces : ℕ → List ℕ
 spaces n = styled_text (format_spec 32 0 0 n (2 ^ 64 - 1)) []
 
--- A value in at least so many characters: a number at their right end, a text or a number in hexadecimal at their left end. (An
--- escape counts as the one character that it stands for.) Other values have no padding.
+-- A value in at least so many characters: a number at their right end, a text, the digits of bytes or a number in hexadecimal at their
+-- left end. (An escape counts as the one character that it stands for.) Other values have no padding.
 abbrev pub value_in_width : (width : ℕ) → ValueView → List ℕ
 value_in_width width (number n) = styled_decimal (format_spec 32 3 0 width (2 ^ 64 - 1)) n
 value_in_width width (hex n) = codes "0x" ++ padded_integral (format_spec 32 1 0 (width - 2) (2 ^ 64 - 1)) false [] (digits 16 false n)
 value_in_width width (text t) = escaped_text t ++ spaces (width - length (chars t))
+value_in_width width (held_digits bytes) = bytes_text bytes ++ spaces ((width - length bytes) - length bytes)
 value_in_width width other = value_in_line other
 
 -- ---- a line

@@ -7,8 +7,8 @@ use Rattle.mach_cli.specs.CallWords.{no_text_words}
 use Rattle.mach_cli.specs.Escapes.{escaped_bytes, escaped_text}
 use Rattle.mach_cli.specs.declared.flag.Nearest.{Nearest}
 use Rattle.mach_cli.specs.declared.misuse.Misuse.{Misuse}
-use Rattle.mach_cli.specs.declared.misuse.Misuse.TheVariants.{UnknownOption, UnknownWord, NoList, NoNumber, NoCpu, NoAddress, NoAddressLine, InputTwice}
-use Rattle.mach_cli.specs.declared.misuse.Misuse.TheVariants.{NoColor, Missing, NoText}
+use Rattle.mach_cli.specs.declared.misuse.Misuse.TheVariants.{UnknownOption, UnknownWord, NoList, NoNumber, NoCpu, NoName, NoAddress, NoAddressLine}
+use Rattle.mach_cli.specs.declared.misuse.Misuse.TheVariants.{InputTwice, NoColor, Missing, NoText}
 
 abbrev pub misuse_words : Misuse → List ℕ
 misuse_words (UnknownOption word) = codes "unknown option '" ++ (escaped_text word.now ++ codes "'")
@@ -16,6 +16,7 @@ misuse_words (UnknownWord word) = codes "unknown word '" ++ (escaped_text word.n
 misuse_words (NoList word instead) = codes "no list '" ++ (escaped_text word.now ++ (codes "'; " ++ instead.now))
 misuse_words (NoNumber word) = codes "'" ++ (escaped_text word.now ++ codes "' is not a number")
 misuse_words (NoCpu word) = codes "'" ++ (escaped_text word.now ++ codes "' is not a cpu")
+misuse_words (NoName word) = codes "'" ++ (escaped_text word.now ++ codes "' is not a name of at most 16 bytes")
 misuse_words (NoAddress word) = codes "'" ++ (escaped_text word.now ++ codes "' is not an address")
 misuse_words (NoAddressLine line) =
     line.what.now ++ (codes " " ++ (decimal line.number ++ (codes ", '" ++ (escaped_bytes line.bytes.now ++ codes "', is not an address"))))
@@ -31,6 +32,7 @@ unknown_in (UnknownWord word) = Some word.now
 unknown_in (NoList word instead) = None
 unknown_in (NoNumber word) = None
 unknown_in (NoCpu word) = None
+unknown_in (NoName word) = None
 unknown_in (NoAddress word) = None
 unknown_in (NoAddressLine line) = None
 unknown_in InputTwice = None

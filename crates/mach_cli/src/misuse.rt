@@ -25,6 +25,8 @@ pub enum Misuse<'a> {
     NoNumber(&'a str),
     /// What should be a cpu isn't a known one.
     NoCpu(&'a str),
+    /// What should be a name of a segment or a section has more than 16 bytes.
+    NoName(&'a str),
     /// What should be an address isn't one.
     NoAddress(&'a str),
     /// A line of standard input that should be an address isn't one.
@@ -54,6 +56,9 @@ impl Display for Misuse<'_> {
             }
             Misuse::NoNumber(word) => write!(f, "'{}' is not a number", Escaped(word)),
             Misuse::NoCpu(word) => write!(f, "'{}' is not a cpu", Escaped(word)),
+            Misuse::NoName(word) => {
+                write!(f, "'{}' is not a name of at most 16 bytes", Escaped(word))
+            }
             Misuse::NoAddress(word) => write!(f, "'{}' is not an address", Escaped(word)),
             Misuse::NoAddressLine(line) => {
                 let (what, number, shown) = (line.what, line.number, EscapedBytes(line.bytes));

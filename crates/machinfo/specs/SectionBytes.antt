@@ -56,7 +56,7 @@ listed_bytes (Err f) = Err f ∷ []
 abbrev pub byte_row_fields : ℕ × List ℕ → List FieldView
 byte_row_fields row =
     wide_field 11 (field_of (codes "address") (hex row.0) 1)
-    ∷ field_of (codes "hex") (held_digits row.1) 2
+    ∷ wide_field 32 (field_of (codes "hex") (held_digits row.1) 2)
     ∷ line_field (held_bytes row.1) 3
     ∷ []
 

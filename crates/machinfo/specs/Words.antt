@@ -4,8 +4,8 @@ use Rattle.std.specs.Borrow.{Bor}
 use Rattle.std.specs.List.{list_all}
 use Rattle.mach_cli.specs.Calls.{word_address}
 use Rattle.mach_cli.specs.declared.misuse.Misuse.{Misuse}
-use Rattle.mach_cli.specs.declared.misuse.Misuse.TheVariants.{Missing, NoAddress, NoList, UnknownWord}
-use Rattle.machinfo.specs.SectionBytes.{section_name_of}
+use Rattle.mach_cli.specs.declared.misuse.Misuse.TheVariants.{Missing, NoAddress, NoList, NoName, UnknownWord}
+use Rattle.machinfo.specs.SectionBytes.{name_of_16, section_name_of}
 use Rattle.machinfo.specs.declared.selection.Selection.{Selection}
 use Rattle.machinfo.specs.declared.word.Choice.{Choice}
 use Rattle.machinfo.specs.declared.word.Choice.TheVariants as choices
@@ -127,8 +127,11 @@ IsNoAddress [] misuse = (what : Bor (List ℕ)) × (what.now ≡ codes "ADDRESS 
 IsNoAddress (word ∷ files) misuse = (misuse ≡ NoAddress word) × (word_address word.now ≡ None)
 
 -- This is wrong with the arguments after `bytes`: there are less than two, or a name is longer than 16 bytes.
+abbrev pub IsLongName : Bor (List ℕ) → Misuse → Type 0
+IsLongName name misuse = (misuse ≡ NoName name) × (name_of_16 name.now ≡ None)
+
 abbrev pub IsNoSection : List (Bor (List ℕ)) → Misuse → Type 0
-IsNoSection (segment ∷ section ∷ files) misuse = (misuse ≡ UnknownWord section) × (section_name_of segment.now section.now ≡ None)
+IsNoSection (segment ∷ section ∷ files) misuse = IsLongName segment misuse ⊎ IsLongName section misuse
 IsNoSection _ misuse = (what : Bor (List ℕ)) × (what.now ≡ codes "SEGMENT SECTION after bytes") × (misuse ≡ Missing what)
 
 -- one of these is wrong

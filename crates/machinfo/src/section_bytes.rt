@@ -40,8 +40,8 @@ pub struct ByteRows<'a> {
     pub index: usize,
 }
 
-// Returns a name padded with zeros, if it has 16 bytes at most.
-fn padded(name: &str) -> Option<[u8; 16]>
+/// Returns a name padded with zeros, if it has 16 bytes at most.
+pub fn padded(name: &str) -> Option<[u8; 16]>
     ensures { result ≡ name_of_16 name.now }
 {
     let bytes = name.as_bytes();
@@ -54,16 +54,6 @@ fn padded(name: &str) -> Option<[u8; 16]>
 }
 
 impl SectionName {
-    /// Returns the section with these names, if each has 16 bytes at most.
-    pub fn of(segment: &str, section: &str) -> Option<SectionName>
-        ensures { result ≡ defined.section_name_of segment.now section.now }
-    {
-        Some(SectionName {
-            segment: padded(segment)?,
-            section: padded(section)?,
-        })
-    }
-
     // Whether a section has these names of its own.
     fn is_of(&self, found: &NumberedSection) -> bool
         ensures { result ≡ defined.has_both_names self.now found.now }
@@ -84,8 +74,11 @@ fn section_with<A: Allocator>(image: &MachO<'_, A>, name: &SectionName) -> Optio
     None
 }
 
-// Returns the bytes of the first section with these names, and the address of the first byte.
-fn held_by<'a, A: Allocator>(image: &MachO<'a, A>, name: &SectionName) -> Result<(u64, &'a [u8])>
+/// Returns the bytes of the first section with these names, and the address of the first byte.
+pub fn held_by<'a, A: Allocator>(
+    image: &MachO<'a, A>,
+    name: &SectionName,
+) -> Result<(u64, &'a [u8])>
     ensures { Reads (λ found. (found.0, found.1.now)) result (defined.bytes_held name.now (facts_view image.now)) }
 {
     let Some(section) = section_with(image, name) else {
@@ -163,7 +156,7 @@ fn byte_row_fields<'a>(row: ByteRow<'a>) -> [Field<'a>; 3]
 {
     [
         Field::new("address", Value::Hex(row.address), 1).wide(11),
-        Field::new("hex", Value::Digits(row.bytes), 2),
+        Field::new("hex", Value::Digits(row.bytes), 2).wide(32),
         Field::of_line(Value::Bytes(row.bytes), 3),
     ]
 }

@@ -6,7 +6,7 @@ ghost use Rattle.std.specs.Result.{result_ok};
 ghost use Rattle.mach_dyld.specs.Exports.{text_in};
 ghost use Rattle.machinfo.specs.Words as words;
 
-use crate::section_bytes::SectionName;
+use crate::section_bytes::{SectionName, padded};
 use crate::word::{Choice, Word};
 use mach_cli::{Misuse, address_in};
 
@@ -80,13 +80,20 @@ fn selection_of_bytes<'a, 'b>(arguments: &'a [&'b str]) -> Result<Selection<'a, 
     let [segment, section, files @ ..] = arguments else {
         return Err(Misuse::Missing("SEGMENT SECTION after bytes"));
     };
-    match SectionName::of(segment, section) {
-        Some(name) => Ok(Selection {
-            choice: Some(Choice::Word(Word::Bytes(name))),
-            files,
-        }),
-        None => Err(Misuse::UnknownWord(section)),
-    }
+    let Some(of_segment) = padded(segment) else {
+        return Err(Misuse::NoName(segment));
+    };
+    let Some(of_section) = padded(section) else {
+        return Err(Misuse::NoName(section));
+    };
+    let name = SectionName {
+        segment: of_segment,
+        section: of_section,
+    };
+    Ok(Selection {
+        choice: Some(Choice::Word(Word::Bytes(name))),
+        files,
+    })
 }
 
 // Returns the list that the first argument selects, if it does.
