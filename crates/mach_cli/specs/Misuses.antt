@@ -8,7 +8,7 @@ use Rattle.mach_cli.specs.Escapes.{escaped_bytes, escaped_text}
 use Rattle.mach_cli.specs.declared.flag.Nearest.{Nearest}
 use Rattle.mach_cli.specs.declared.misuse.Misuse.{Misuse}
 use Rattle.mach_cli.specs.declared.misuse.Misuse.TheVariants.{UnknownOption, UnknownWord, NoList, NoNumber, NoCpu, NoName, NoAddress, NoAddressLine}
-use Rattle.mach_cli.specs.declared.misuse.Misuse.TheVariants.{InputTwice, NoColor, Missing, NoText}
+use Rattle.mach_cli.specs.declared.misuse.Misuse.TheVariants.{InputTwice, NoColor, Together, Missing, NoText}
 
 abbrev pub misuse_words : Misuse → List ℕ
 misuse_words (UnknownOption word) = codes "unknown option '" ++ (escaped_text word.now ++ codes "'")
@@ -22,6 +22,7 @@ misuse_words (NoAddressLine line) =
     line.what.now ++ (codes " " ++ (decimal line.number ++ (codes ", '" ++ (escaped_bytes line.bytes.now ++ codes "', is not an address"))))
 misuse_words InputTwice = codes "standard input can't be read twice"
 misuse_words (NoColor word) = codes "'" ++ (escaped_text word.now ++ codes "' is not auto, always or never")
+misuse_words (Together options) = options.now ++ codes " can't be given together"
 misuse_words (Missing what) = codes "no " ++ (what.now ++ codes " is given")
 misuse_words (NoText word) = no_text_words word.what.now word.number word.bytes.now
 
@@ -37,6 +38,7 @@ unknown_in (NoAddress word) = None
 unknown_in (NoAddressLine line) = None
 unknown_in InputTwice = None
 unknown_in (NoColor word) = None
+unknown_in (Together options) = None
 unknown_in (Missing what) = None
 unknown_in (NoText word) = None
 

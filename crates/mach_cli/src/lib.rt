@@ -101,6 +101,7 @@ pub use crate::options::{Format, Options, OwnOptions, SharedOnly};
 pub use crate::origins::{library_short_name, ordinal_of, origin_of, provider_name};
 pub use crate::painted::Painted;
 pub use crate::parts::name::PartName;
+pub use crate::parts::selection::only_selected;
 pub use crate::parts::shown::ShownPart;
 pub use crate::parts::{Parts, items_shown};
 pub use crate::program::{Output, Program};

@@ -35,6 +35,8 @@ pub enum Misuse<'a> {
     InputTwice,
     /// What should say when output is coloured doesn't.
     NoColor(&'a str),
+    /// These options can't be given together.
+    Together(&'static str),
     /// An argument is missing: this one.
     Missing(&'static str),
     /// An argument isn't text.
@@ -68,6 +70,7 @@ impl Display for Misuse<'_> {
             Misuse::NoColor(word) => {
                 write!(f, "'{}' is not auto, always or never", Escaped(word))
             }
+            Misuse::Together(options) => write!(f, "{options} can't be given together"),
             Misuse::NoText(word) => write!(f, "{word}"),
             Misuse::Missing(what) => write!(f, "no {what} is given"),
         }

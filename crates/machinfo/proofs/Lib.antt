@@ -5,6 +5,7 @@ mod Facts
 mod Headings
 mod ListRows
 mod Flags
+mod RawBytes
 mod RowLines
 mod SectionRows
 mod SectionsOfCommands

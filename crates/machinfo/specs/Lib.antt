@@ -18,6 +18,7 @@ pub mod SectionRows
 pub mod Relocations
 pub mod SectionContents
 pub mod SectionBytes
+pub mod RawBytes
 pub mod Parts
 pub mod PartFields
 pub mod Lists

@@ -12,6 +12,8 @@ pub struct InfoOptions {
     pub has_headings: bool,
     /// The line of a verdict says what turns it on.
     pub is_explained: bool,
+    /// The bytes of a section are written as they are.
+    pub is_raw: bool,
 }
 
 impl InfoOptions {
@@ -22,6 +24,7 @@ impl InfoOptions {
         InfoOptions {
             has_headings: false,
             is_explained: false,
+            is_raw: false,
         }
     }
 }
@@ -35,6 +38,7 @@ impl OwnOptions for InfoOptions {
         match argument {
             "--headings" => self.has_headings = true,
             "--explain" => self.is_explained = true,
+            "--raw" => self.is_raw = true,
             _ => return false,
         }
         true

@@ -9,7 +9,7 @@
 //! be read is a line with the error. With `--json` it writes one object for each file instead, on a line.
 #![tactic(auto)]
 
-ghost use Rattle.std.specs.Prelude.{◌≡◌, false, true, option_map, IfOk, IfSome};
+ghost use Rattle.std.specs.Prelude.{◌≡◌, ◌∷◌, [], Err, Some, false, true, option_map, IfOk, IfSome};
 ghost use Rattle.mach_cli.specs.Calls.{is_json};
 ghost use Rattle.mach_cli.specs.ShownCalls.{ShowsJson, ShowsText};
 ghost use Rattle.machinfo.specs.Calls.{last_address, AreInfoFiles, ShowsInfoLines, ShowsInfoObjects};
@@ -47,6 +47,7 @@ mod own_names;
 mod part_fields;
 mod parts;
 mod providers;
+mod raw;
 mod registers;
 mod relocation_fields;
 mod relocations;
@@ -61,11 +62,14 @@ mod selection;
 mod word;
 
 use crate::arguments::InfoOptions;
+use crate::raw::write_raw;
+use crate::section_bytes::SectionName;
 use crate::selection::{Selection, has_small_letters, prints_elsewhere, selection_of};
-use crate::word::Choice;
+use crate::word::{Choice, Word};
 use json::InfoObjects;
-use mach_cli::{Call, ImageFiles, Misuse, Options, Others, Program, Titled};
+use mach_cli::{Call, ImageFiles, Misuse, Names, Options, Others, Program, Titled};
 use std::alloc::Global;
+use std::io;
 use std::io::{BufWriter, IsTerminal, Write};
 use std::process::ExitCode;
 use views::InfoLines;
@@ -87,6 +91,7 @@ line for each item.
        machinfo bytes SEGMENT SECTION [--json] [--limit N]
                 [--arch NAME | --cputype 0xN] [--lossy] [--names FILE] [-0]
                 [--color WHEN] FILE..
+       machinfo bytes SEGMENT SECTION --raw [--arch NAME | --cputype 0xN] FILE
        machinfo -h | --help | --version
 WORD: commands, starts, slots, indirect, data, options, tools, notes, providers,
       libraries, id, rebases, weak, segments, sections, uuid, rpaths,
@@ -129,6 +134,7 @@ WORD: commands, starts, slots, indirect, data, options, tools, notes, providers,
     flags: "      --headings            print a heading before the lines of a list
       --explain             print what turns each verdict of security on
       --limit N             print at most N rows per file
+      --raw                 write only the bytes of the section, as they are
 ",
     examples: "  machinfo prog                 a summary
   machinfo imports prog         what dyld binds
@@ -149,10 +155,61 @@ fn start(rt: &HostRuntime) -> Result<u8, u8> {
     answer(rt, &call)
 }
 
-// Runs a parsed call.
-fn answer(rt: &HostRuntime, call: &Call<'_, Global, InfoOptions>) -> Result<u8, u8> {
+// Runs a parsed call: writes bytes as they are, or shows each file.
+fn answer(rt: &HostRuntime, call: &Call<'_, Global, InfoOptions>) -> Result<u8, u8>
+    ensures no_objects { call.now.own.is_raw ≡ true → is_json call.now.format ≡ true → result ≡ Err 2 }
+{
+    if call.own.is_raw {
+        return write_section(rt, call);
+    }
     let mut out = PROGRAM.output(rt, call.color, call.format)?;
     show_call(rt, call, rt.stdout().is_terminal(), &mut out)
+}
+
+// Returns the section and the one file that a call with `--raw` names.
+fn section_and_file<'a>(
+    call: &Call<'a, Global, InfoOptions>,
+) -> Result<(SectionName, &'a str), Misuse<'a>>
+    ensures { IfOk result (λ named. words.selected (last_address call.now) call.now.words.items
+        ≡ Some (Some (Choice.Word (Word.Bytes named.0)), named.1 ∷ [])) }
+{
+    let selection = selection_of(last_address(call), call.words.as_slice())?;
+    match (selection.choice, selection.files) {
+        (Some(Choice::Word(Word::Bytes(name))), [file]) if call.others.is_empty() => {
+            Ok((name, *file))
+        }
+        _ => Err(Misuse::Missing("bytes SEGMENT SECTION with a single FILE")),
+    }
+}
+
+// Writes the bytes of the section that a call names, of its one file, and returns the status.
+fn write_section(rt: &HostRuntime, call: &Call<'_, Global, InfoOptions>) -> Result<u8, u8>
+    ensures no_objects { is_json call.now.format ≡ true → result ≡ Err 2 }
+{
+    if call.format.is_json() {
+        return Err(PROGRAM.bad_usage(rt, Misuse::Together("--raw and --json")));
+    }
+    let (name, file) = match section_and_file(call) {
+        Ok(named) => named,
+        Err(misuse) => return Err(PROGRAM.bad_usage(rt, misuse)),
+    };
+    let Ok(mut out) = BufWriter::new(rt.alloc(), io::writer(rt)) else {
+        return Err(PROGRAM.out_of_memory(rt));
+    };
+    let bytes = PROGRAM.read(rt, file)?;
+    let names = Names {
+        program: PROGRAM.name,
+        file,
+    };
+    Ok(write_raw(
+        rt.alloc(),
+        call.cpu,
+        &name,
+        names,
+        &bytes,
+        &mut out,
+        &mut rt.stderr(),
+    ))
 }
 
 // Returns the last address after `--at`.

@@ -28,6 +28,7 @@ complete -c machinfo -n __fish_use_subcommand -f -a imports -d 'print what dyld 
 complete -c machinfo -l headings -d 'print a heading before the lines of a list'
 complete -c machinfo -l explain -d 'print what turns each verdict of security on'
 complete -c machinfo -l limit -x -d 'print at most N rows per file'
+complete -c machinfo -l raw -d 'write only the bytes of the section, as they are'
 complete -c machinfo -l json -d 'print one JSON object per file, each on a line'
 complete -c machinfo -l names -r -d 'also read the files that FILE lists, one name a line'
 complete -c machinfo -s 0 -d 'names in the lists of --names end with NUL'

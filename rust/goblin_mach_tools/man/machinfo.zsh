@@ -4,6 +4,7 @@ _arguments \
     '--headings[print a heading before the lines of a list]' \
     '--explain[print what turns each verdict of security on]' \
     '--limit[print at most N rows per file]:N: ' \
+    '--raw[write only the bytes of the section, as they are]' \
     '--json[print one JSON object per file, each on a line]' \
     '--names[also read the files that FILE lists, one name a line]:FILE:_files' \
     '-0[names in the lists of --names end with NUL]' \

@@ -1,10 +1,11 @@
 //! Which parts of a file are selected.
 
-ghost use Rattle.std.specs.Prelude.{◌≡◌};
+ghost use Rattle.std.specs.Prelude.{◌≡◌, ◌≢◌, ◌∷◌, [], length, IfNone, IfSome};
 ghost use Rattle.std.specs.Iterator.{YieldsFirstBy};
 ghost use Rattle.goblin_mach.specs.ItemsLeft.{input_item_read};
 ghost use Rattle.mach_cli.specs.Bounds.{most_images};
-ghost use Rattle.mach_cli.specs.Selected.{are_missed, are_more, is_part_for, parts_within, selected_parts_left, within_left};
+ghost use Rattle.mach_cli.specs.Selected.{are_missed, are_more, is_part_for, parts_within, selected_parts, selected_parts_left};
+ghost use Rattle.mach_cli.specs.Selected.{within_left};
 ghost use Rattle.mach_cli.specs.PartsOf.{parts_left};
 
 use crate::bounds::most_images;
@@ -49,6 +50,23 @@ pub fn are_more(limit: usize, cpu: Cpu, parts: Parts<'_>) -> bool
         room = rest;
     }
     false
+}
+
+/// Returns the part that is selected, if only one is.
+pub fn only_selected<'a>(cpu: Cpu, parts: Parts<'a>) -> Option<InputItem<'a>>
+    ensures one { IfSome result (λ part. selected_parts cpu (parts_left parts.entry) ≡ input_item_read part ∷ []) }
+    ensures other { IfNone result (length (selected_parts cpu (parts_left parts.entry)) ≢ 1) }
+{
+    let mut selected = SelectedParts {
+        cpu,
+        room: 0,
+        parts,
+    };
+    let part = selected.next_selected()?;
+    match selected.next_selected() {
+        Some(_) => None,
+        None => Some(part),
+    }
 }
 
 /// The parts that are selected by the cpu of their entry, no more of them than a limit.

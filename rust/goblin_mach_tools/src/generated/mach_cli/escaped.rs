@@ -327,3 +327,14 @@ pub fn print_bytes<O: Write>(bytes: &[u8], out: &mut O) -> io::Result<()> {
     }
     Ok(())
 }
+
+/// Prints bytes, two digits each, and spaces after them up to so many characters.
+pub(crate) fn print_wide_bytes<O: Write>(
+    bytes: &[u8],
+    width: usize,
+    out: &mut O,
+) -> io::Result<()> {
+    print_bytes(bytes, out)?;
+    let rest = width.saturating_sub(bytes.len());
+    print_spaces(rest.saturating_sub(bytes.len()), out)
+}

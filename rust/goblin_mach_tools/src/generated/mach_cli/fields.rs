@@ -6,7 +6,7 @@ use crate::generated::mach_cli::digits::{
     print_decimal, print_hexadecimal, print_signed, print_wide_hexadecimal,
 };
 use crate::generated::mach_cli::escaped::{
-    EscapedBytes, print_bytes, print_escaped, print_wide_escaped,
+    EscapedBytes, print_bytes, print_escaped, print_wide_bytes, print_wide_escaped,
 };
 use crate::generated::mach_cli::json::text::print_string;
 use crate::generated::mach_cli::record_fields::{
@@ -72,7 +72,7 @@ pub struct Field<'a> {
     pub value: Value<'a>,
     /// Its column in a line, from 1 to 9. A line has a field of column 0 only after its name (`Pairs`), and none of column 10.
     pub column: usize,
-    /// How many characters it has in a line at least. A number is padded before it, a text or a hexadecimal number after it.
+    /// How many characters it has in a line at least. A number is padded before it, a text, digits of bytes or a hexadecimal number after it.
     pub width: usize,
 }
 
@@ -262,6 +262,7 @@ fn print_wide<O: Write>(value: Value<'_>, width: usize, out: &mut O) -> io::Resu
         Value::Number(number) => write!(out, "{number:>width$}"),
         Value::Hex(number) => print_wide_hexadecimal(number, width, out),
         Value::Text(text) => print_wide_escaped(text, width, out),
+        Value::Digits(bytes) => print_wide_bytes(bytes, width, out),
         value => print_value(value, out),
     }
 }

@@ -23,6 +23,8 @@ pub enum Misuse<'a> {
     NoNumber(&'a str),
     /// What should be a cpu isn't a known one.
     NoCpu(&'a str),
+    /// What should be a name of a segment or a section has more than 16 bytes.
+    NoName(&'a str),
     /// What should be an address isn't one.
     NoAddress(&'a str),
     /// A line of standard input that should be an address isn't one.
@@ -31,6 +33,8 @@ pub enum Misuse<'a> {
     InputTwice,
     /// What should say when output is coloured doesn't.
     NoColor(&'a str),
+    /// These options can't be given together.
+    Together(&'static str),
     /// An argument is missing: this one.
     Missing(&'static str),
     /// An argument isn't text.
@@ -47,6 +51,9 @@ impl Display for Misuse<'_> {
             }
             Misuse::NoNumber(word) => write!(f, "'{}' is not a number", Escaped(word)),
             Misuse::NoCpu(word) => write!(f, "'{}' is not a cpu", Escaped(word)),
+            Misuse::NoName(word) => {
+                write!(f, "'{}' is not a name of at most 16 bytes", Escaped(word))
+            }
             Misuse::NoAddress(word) => write!(f, "'{}' is not an address", Escaped(word)),
             Misuse::NoAddressLine(line) => {
                 let (what, number, shown) = (line.what, line.number, EscapedBytes(line.bytes));
@@ -56,6 +63,7 @@ impl Display for Misuse<'_> {
             Misuse::NoColor(word) => {
                 write!(f, "'{}' is not auto, always or never", Escaped(word))
             }
+            Misuse::Together(options) => write!(f, "{options} can't be given together"),
             Misuse::NoText(word) => write!(f, "{word}"),
             Misuse::Missing(what) => write!(f, "no {what} is given"),
         }

@@ -115,6 +115,7 @@ pub use crate::generated::mach_cli::origins::{
 };
 pub use crate::generated::mach_cli::painted::Painted;
 pub use crate::generated::mach_cli::parts::name::PartName;
+pub use crate::generated::mach_cli::parts::selection::only_selected;
 pub use crate::generated::mach_cli::parts::shown::ShownPart;
 pub use crate::generated::mach_cli::parts::{Parts, items_shown};
 pub use crate::generated::mach_cli::program::{Output, Program};

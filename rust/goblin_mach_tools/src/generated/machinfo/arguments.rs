@@ -11,14 +11,25 @@ pub struct InfoOptions {
     pub has_headings: bool,
     /// The line of a verdict says what turns it on.
     pub is_explained: bool,
+    /// The bytes of a section are written as they are.
+    pub is_raw: bool,
 }
 
 impl InfoOptions {
-    /// None of these options.
-    pub const NONE: InfoOptions = InfoOptions {
-        has_headings: false,
-        is_explained: false,
-    };
+    /// Returns none of these options.
+    ///
+    /// <details><summary>Proved</summary>
+    ///
+    /// - `result ≡ no_info_options`
+    ///
+    /// </details>
+    pub fn none() -> InfoOptions {
+        InfoOptions {
+            has_headings: false,
+            is_explained: false,
+            is_raw: false,
+        }
+    }
 }
 
 impl OwnOptions for InfoOptions {
@@ -26,6 +37,7 @@ impl OwnOptions for InfoOptions {
         match argument {
             "--headings" => self.has_headings = true,
             "--explain" => self.is_explained = true,
+            "--raw" => self.is_raw = true,
             _ => return false,
         }
         true

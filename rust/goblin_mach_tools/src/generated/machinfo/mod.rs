@@ -43,6 +43,7 @@ mod own_names;
 mod part_fields;
 mod parts;
 mod providers;
+mod raw;
 mod registers;
 mod relocation_fields;
 mod relocations;
@@ -56,12 +57,17 @@ mod arguments;
 mod selection;
 mod word;
 
-use crate::generated::mach_cli::{Call, ImageFiles, Misuse, Options, Others, Program, Titled};
+use crate::generated::mach_cli::{
+    Call, ImageFiles, Misuse, Names, Options, Others, Program, Titled,
+};
 use crate::generated::machinfo::arguments::InfoOptions;
+use crate::generated::machinfo::raw::write_raw;
+use crate::generated::machinfo::section_bytes::SectionName;
 use crate::generated::machinfo::selection::{
     Selection, has_small_letters, prints_elsewhere, selection_of,
 };
-use crate::generated::machinfo::word::Choice;
+use crate::generated::machinfo::word::{Choice, Word};
+use crate::shim::io;
 use crate::shim::io::{BufWriter, IsTerminal, Write};
 use json::InfoObjects;
 use std::process::ExitCode;
@@ -84,6 +90,7 @@ line for each item.
        machinfo bytes SEGMENT SECTION [--json] [--limit N]
                 [--arch NAME | --cputype 0xN] [--lossy] [--names FILE] [-0]
                 [--color WHEN] FILE..
+       machinfo bytes SEGMENT SECTION --raw [--arch NAME | --cputype 0xN] FILE
        machinfo -h | --help | --version
 WORD: commands, starts, slots, indirect, data, options, tools, notes, providers,
       libraries, id, rebases, weak, segments, sections, uuid, rpaths,
@@ -126,6 +133,7 @@ WORD: commands, starts, slots, indirect, data, options, tools, notes, providers,
     flags: "      --headings            print a heading before the lines of a list
       --explain             print what turns each verdict of security on
       --limit N             print at most N rows per file
+      --raw                 write only the bytes of the section, as they are
 ",
     examples: "  machinfo prog                 a summary
   machinfo imports prog         what dyld binds
@@ -142,14 +150,57 @@ pub fn main(rt: HostRuntime) -> ExitCode {
 // Runs the program with its words.
 fn start(rt: &HostRuntime) -> Result<u8, u8> {
     let words = PROGRAM.words(rt)?;
-    let call = PROGRAM.call(rt, InfoOptions::NONE, &words)?;
+    let call = PROGRAM.call(rt, InfoOptions::none(), &words)?;
     answer(rt, &call)
 }
 
-// Runs a parsed call.
+// Runs a parsed call: writes bytes as they are, or shows each file.
 fn answer(rt: &HostRuntime, call: &Call<'_, InfoOptions>) -> Result<u8, u8> {
+    if call.own.is_raw {
+        return write_section(rt, call);
+    }
     let mut out = PROGRAM.output(rt, call.color, call.format)?;
-    show_call(rt, call, &mut out)
+    show_call(rt, call, rt.stdout().is_terminal(), &mut out)
+}
+
+// Returns the section and the one file that a call with `--raw` names.
+fn section_and_file<'a>(
+    call: &Call<'a, InfoOptions>,
+) -> Result<(SectionName, &'a str), Misuse<'a>> {
+    let selection = selection_of(last_address(call), call.words.as_slice())?;
+    match (selection.choice, selection.files) {
+        (Some(Choice::Word(Word::Bytes(name))), [file]) if call.others.is_empty() => {
+            Ok((name, *file))
+        }
+        _ => Err(Misuse::Missing("bytes SEGMENT SECTION with a single FILE")),
+    }
+}
+
+// Writes the bytes of the section that a call names, of its one file, and returns the status.
+fn write_section(rt: &HostRuntime, call: &Call<'_, InfoOptions>) -> Result<u8, u8> {
+    if call.format.is_json() {
+        return Err(PROGRAM.bad_usage(rt, Misuse::Together("--raw and --json")));
+    }
+    let (name, file) = match section_and_file(call) {
+        Ok(named) => named,
+        Err(misuse) => return Err(PROGRAM.bad_usage(rt, misuse)),
+    };
+    let Ok(mut out) = BufWriter::new(io::writer(rt)) else {
+        return Err(PROGRAM.out_of_memory(rt));
+    };
+    let bytes = PROGRAM.read(rt, file)?;
+    let names = Names {
+        program: PROGRAM.name,
+        file,
+    };
+    Ok(write_raw(
+        call.cpu,
+        &name,
+        names,
+        &bytes,
+        &mut out,
+        &mut rt.stderr(),
+    ))
 }
 
 // Returns the last address after `--at`.
@@ -157,10 +208,11 @@ fn last_address(call: &Call<'_, InfoOptions>) -> Option<u64> {
     call.addresses.last().copied()
 }
 
-// Shows what the arguments of a call select, of all files that it names, and returns the worst status.
+// Shows what the arguments of a call select, of all files that it names, perhaps on a terminal, and returns the worst status.
 fn show_call<W: Write>(
     rt: &HostRuntime,
     call: &Call<'_, InfoOptions>,
+    is_terminal: bool,
     out: &mut BufWriter<Titled<W>>,
 ) -> Result<u8, u8> {
     let words = call.words.as_slice();
@@ -174,16 +226,16 @@ fn show_call<W: Write>(
     if selection.files.is_empty() && call.others.is_empty() {
         return Err(PROGRAM.bad_usage(rt, Misuse::Missing("FILE")));
     }
-    if let Some(misuse) = misspelled(rt, selection) {
+    if let Some(misuse) = wrong_word(rt, selection) {
         return Err(PROGRAM.bad_usage(rt, misuse));
     }
-    let shown = shown_by(call, selection.choice, rt.stdout().is_terminal());
+    let shown = shown_by(call, selection.choice, is_terminal);
     show(rt, &shown, selection.files, &call.others, out)
 }
 
 // Returns what is wrong with a first file before others, if nothing is selected: it is of small letters alone, and it is a list of
 // another program or similar to a word.
-fn misspelled<'a>(rt: &HostRuntime, selection: Selection<'_, 'a>) -> Option<Misuse<'a>> {
+fn wrong_word<'a>(rt: &HostRuntime, selection: Selection<'_, 'a>) -> Option<Misuse<'a>> {
     let [first, _, ..] = selection.files else {
         return None;
     };

@@ -30,8 +30,14 @@ pub struct ByteRows<'a> {
     pub index: usize,
 }
 
-// Returns a name padded with zeros, if it has 16 bytes at most.
-fn padded(name: &str) -> Option<[u8; 16]> {
+/// Returns a name padded with zeros, if it has 16 bytes at most.
+///
+/// <details><summary>Proved</summary>
+///
+/// - `result ≡ name_of_16 name`
+///
+/// </details>
+pub fn padded(name: &str) -> Option<[u8; 16]> {
     let bytes = name.as_bytes();
     let mut field = [0; 16];
     if bytes.len() > field.len() {
@@ -42,20 +48,6 @@ fn padded(name: &str) -> Option<[u8; 16]> {
 }
 
 impl SectionName {
-    /// Returns the section with these names, if each has 16 bytes at most.
-    ///
-    /// <details><summary>Proved</summary>
-    ///
-    /// - `result ≡ defined.section_name_of segment section`
-    ///
-    /// </details>
-    pub fn of(segment: &str, section: &str) -> Option<SectionName> {
-        Some(SectionName {
-            segment: padded(segment)?,
-            section: padded(section)?,
-        })
-    }
-
     // Whether a section has these names of its own.
     fn is_of(&self, found: &NumberedSection) -> bool {
         found.section.segname == self.segment && found.section.sectname == self.section
@@ -72,8 +64,14 @@ fn section_with(image: &MachO<'_>, name: &SectionName) -> Option<NumberedSection
     None
 }
 
-// Returns the bytes of the first section with these names, and the address of the first byte.
-fn held_by<'a>(image: &MachO<'a>, name: &SectionName) -> Result<(u64, &'a [u8])> {
+/// Returns the bytes of the first section with these names, and the address of the first byte.
+///
+/// <details><summary>Proved</summary>
+///
+/// - `Reads (λ found. (found.0, found.1)) result (defined.bytes_held name (facts_view image))`
+///
+/// </details>
+pub fn held_by<'a>(image: &MachO<'a>, name: &SectionName) -> Result<(u64, &'a [u8])> {
     let Some(section) = section_with(image, name) else {
         return Err(Error::Malformed("no section has these names"));
     };
@@ -139,7 +137,7 @@ impl<'a> ItemList for ByteRows<'a> {
 fn byte_row_fields<'a>(row: ByteRow<'a>) -> [Field<'a>; 3] {
     [
         Field::new("address", Value::Hex(row.address), 1).wide(11),
-        Field::new("hex", Value::Digits(row.bytes), 2),
+        Field::new("hex", Value::Digits(row.bytes), 2).wide(32),
         Field::of_line(Value::Bytes(row.bytes), 3),
     ]
 }

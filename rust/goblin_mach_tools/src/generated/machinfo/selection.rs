@@ -3,7 +3,7 @@
 #![forbid(unsafe_code)]
 
 use crate::generated::mach_cli::{Misuse, address_in};
-use crate::generated::machinfo::section_bytes::SectionName;
+use crate::generated::machinfo::section_bytes::{SectionName, padded};
 use crate::generated::machinfo::word::{Choice, Word};
 
 /// What a call selects, and the files that its arguments name.
@@ -70,13 +70,20 @@ fn selection_of_bytes<'a, 'b>(arguments: &'a [&'b str]) -> Result<Selection<'a, 
     let [segment, section, files @ ..] = arguments else {
         return Err(Misuse::Missing("SEGMENT SECTION after bytes"));
     };
-    match SectionName::of(segment, section) {
-        Some(name) => Ok(Selection {
-            choice: Some(Choice::Word(Word::Bytes(name))),
-            files,
-        }),
-        None => Err(Misuse::UnknownWord(section)),
-    }
+    let Some(of_segment) = padded(segment) else {
+        return Err(Misuse::NoName(segment));
+    };
+    let Some(of_section) = padded(section) else {
+        return Err(Misuse::NoName(section));
+    };
+    let name = SectionName {
+        segment: of_segment,
+        section: of_section,
+    };
+    Ok(Selection {
+        choice: Some(Choice::Word(Word::Bytes(name))),
+        files,
+    })
 }
 
 // Returns the list that the first argument selects, if it does.

@@ -58,6 +58,27 @@ pub fn are_more(limit: usize, cpu: Cpu, parts: Parts<'_>) -> bool {
     false
 }
 
+/// Returns the part that is selected, if only one is.
+///
+/// <details><summary>Proved</summary>
+///
+/// - *one*: if `Some(part)`: `selected_parts cpu (parts_left parts.entry) ≡ input_item_read part ∷ []`
+/// - *other*: if `None`: `length (selected_parts cpu (parts_left parts.entry)) ≢ 1`
+///
+/// </details>
+pub fn only_selected<'a>(cpu: Cpu, parts: Parts<'a>) -> Option<InputItem<'a>> {
+    let mut selected = SelectedParts {
+        cpu,
+        room: 0,
+        parts,
+    };
+    let part = selected.next_selected()?;
+    match selected.next_selected() {
+        Some(_) => None,
+        None => Some(part),
+    }
+}
+
 /// The parts that are selected by the cpu of their entry, no more of them than a limit.
 #[derive(Clone, Copy)]
 pub struct SelectedParts<'a> {
