@@ -46,3 +46,4 @@ pub mod Items
 pub mod BytesFacts
 pub mod OneListOfFaults
 pub mod AddressMaps
+pub mod SymbolAtAddress

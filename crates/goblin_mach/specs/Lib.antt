@@ -52,3 +52,4 @@ pub mod Held
 pub mod ListFaults
 pub mod LayoutFacts
 pub mod AddressMaps
+pub mod SymbolAtAddress

@@ -6,9 +6,9 @@ use Rattle.mach_cli.specs.Escapes.{has_no_feed}
 use Rattle.mach_cli.specs.Fields.{fields_line}
 use Rattle.machfixups.specs.RowFields.{ending_fields, pointer_ending, pointer_fields, pointer_line, symbol_text}
 use Rattle.machfixups.specs.Rows.{PointerRow, binds, binds_weakly, corrects, is_strong, is_value, rebases}
-use Rattle.machfixups.specs.TargetSymbols.{PointerSymbol}
+use Rattle.goblin_mach.specs.SymbolAtAddress.{SymbolBelow}
 
-no_feed-symbol : (symbol : Option PointerSymbol) → has_no_feed (symbol_text symbol) ≡ true
+no_feed-symbol : (symbol : Option SymbolBelow) → has_no_feed (symbol_text symbol) ≡ true
 no_feed-symbol (Some symbol) = search (no_feeds, rules)
 no_feed-symbol None = refl
 

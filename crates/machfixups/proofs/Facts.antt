@@ -3,6 +3,7 @@ use Rattle.std.proofs.Common.{◌≡◌, ◌∙◌, ℕ, List, Result, ap, refl}
 use Rattle.mach_base.specs.Context.{pointer_size}
 use Rattle.mach_base.specs.Text.{texts}
 use Rattle.mach_chained.specs.Fixups.{Fixup}
+use Rattle.mach_parts.specs.SectionRecord.{section_holding}
 use Rattle.goblin_mach.specs.Bindings.{AreOpcodeBindings}
 use Rattle.goblin_mach.specs.Facts.{HasChainedFixups, HasFixups, HasLibraries}
 use Rattle.goblin_mach.specs.Fixups.{AreImageFixups, chained_view}
@@ -14,12 +15,11 @@ use Rattle.goblin_mach.proofs.StreamFacts.{weak_binds_are}
 use Rattle.mach_base.specs.Fault.{Fault}
 use Rattle.machfixups.specs.Lists.{PointerLists, HasPointerLists}
 use Rattle.machfixups.specs.Rows.{PointerRow, PointerRows}
-use Rattle.goblin_mach.specs.NamedParts.{symbols_within}
-use Rattle.goblin_mach.specs.NearestSymbol.{IsSymbolAt}
 use Rattle.goblin_mach.specs.SymbolMaps.{image_symbols}
-use Rattle.machfixups.specs.TargetSymbols.{HasTargetSymbols, nameable_section_at}
-use Rattle.machfixups.specs.TargetViews.{symbols_of_image}
-use Rattle.machfixups.proofs.Nearest.{symbol_exists}
+use Rattle.goblin_mach.specs.SymbolAtAddress.{image_symbol_at}
+use Rattle.goblin_mach.proofs.LookedUpFacts.{symbol_at_is}
+use Rattle.goblin_mach.proofs.SymbolAtAddress.{symbol_exists}
+use Rattle.machfixups.specs.TargetSymbols.{HasTargetSymbols}
 
 module _ {A : Type 0} (bytes : List ℕ) (o : ℕ) (m : MachO A) (p : IsLossyImage bytes o m) where
   pub has_chained_fixups : HasChainedFixups bytes o (chained_view m)
@@ -31,13 +31,10 @@ module _ {A : Type 0} (bytes : List ℕ) (o : ℕ) (m : MachO A) (p : IsLossyIma
   pub has_libraries : HasLibraries bytes o (texts m.libs.items)
   has_libraries = ((libraries_are m).lossy bytes o p (texts m.libs.items)).1 refl
 
-  pub has_target_symbols : HasTargetSymbols bytes o (symbols_of_image m)
+  pub has_target_symbols : HasTargetSymbols bytes o (image_symbol_at m)
   has_target_symbols = λ a.
-      let made = symbol_exists (segments_view m) (image_symbols m) (nameable_section_at (segments_view m) a) a in (
-        made.0,
-        (facts_are bytes o m p (λ f. IsSymbolAt f.segments (symbols_within f.symbols) (nameable_section_at f.segments a) a made.0)).1 made.1,
-        made.2,
-      )
+      let made = symbol_exists (segments_view m) (image_symbols m) (section_holding (segments_view m) a) a in
+      (made.0, ((symbol_at_is m a).lossy bytes o p made.0).1 made.1, made.2)
 
   pub has_lists : (lists : PointerLists)
       → AreRebasesByOpcodes (rebase_stream_in (bytes_view m) (commands_view m)) (ctx_view m).le (pointer_size (ctx_view m).container) (segments_view m)

@@ -1,8 +1,6 @@
 mod Endings
 mod Facts
 mod KeptFixups
-mod Nearest
-mod TargetSections
 mod Unseen
 mod RebaseLines
 mod BindLines

@@ -8,7 +8,7 @@ use Rattle.mach_dyld.specs.declared.rebases.RebaseKind.{RebaseKind}
 use Rattle.machfixups.specs.RowFields.{address_field, kind_field, name_or_dash, rebase_fields, rebase_target_text, rebase_text, section_field}
 use Rattle.machfixups.specs.RowFields.{segment_field, target_section, target_segment}
 use Rattle.machfixups.specs.Rows.{PointerPlace}
-use Rattle.machfixups.specs.TargetSymbols.{PointerSymbol}
+use Rattle.goblin_mach.specs.SymbolAtAddress.{SymbolBelow}
 use Rattle.machfixups.proofs.InColumns.{pair_column, place_columns, rebase_word}
 
 -- the fields that a line has up to the symbol, in the order of their columns
@@ -33,13 +33,13 @@ written_line p target =
     rebase_word (pair_column first second (value_in_width 0 (hex target.address)))
 
 -- members that only an object has are in no column
-in_order : (p target : PointerPlace) (symbol : Option PointerSymbol) (kind : RebaseKind) (auth : Option Auth) (raw : Option ℕ)
+in_order : (p target : PointerPlace) (symbol : Option SymbolBelow) (kind : RebaseKind) (auth : Option Auth) (raw : Option ℕ)
     → fields_line (rebase_line p target) ≡ fields_line (rebase_fields p target symbol kind auth raw)
 in_order p target None kind auth None = refl
 in_order p target None kind auth (Some raw) = refl
 in_order p target (Some symbol) kind auth None = refl
 in_order p target (Some symbol) kind auth (Some raw) = refl
 
-pub same_rebase_line : (p target : PointerPlace) (symbol : Option PointerSymbol) (kind : RebaseKind) (auth : Option Auth) (raw : Option ℕ)
+pub same_rebase_line : (p target : PointerPlace) (symbol : Option SymbolBelow) (kind : RebaseKind) (auth : Option Auth) (raw : Option ℕ)
     → rebase_text p target ≡ fields_line (rebase_fields p target symbol kind auth raw)
 same_rebase_line p target symbol kind auth raw = written_line p target ∙ in_order p target symbol kind auth raw

@@ -15,13 +15,13 @@ use Rattle.machfixups.specs.Lists.{PointerLists}
 use Rattle.machfixups.specs.Rows.{Action, PointerRows, action_of, chain_rows, picked, row_by_segment, row_for_fixup, row_for_rebase}
 use Rattle.machfixups.specs.Rows.{rows_shown, source_if}
 use Rattle.machfixups.specs.StoredPointers.{PointerSource, raw_of}
-use Rattle.machfixups.specs.TargetSymbols.{PointerSymbol}
+use Rattle.goblin_mach.specs.SymbolAtAddress.{SymbolBelow}
 use Rattle.machfixups.specs.declared.kept_fixups.KindsOfLists.{KindsOfLists}
 use Rattle.machfixups.specs.declared.kept_fixups.ShownKinds.{ShownKinds}
 use Rattle.machfixups.specs.declared.rows.Selection.{Selection}
 use Rattle.machfixups.proofs.Facts.{rows_are}
 
-module _ (parts : List SegmentStretches) (symbols others : ℕ → Option PointerSymbol) (libs : List (List ℕ)) (table : Option Fixups) where
+module _ (parts : List SegmentStretches) (symbols others : ℕ → Option SymbolBelow) (libs : List (List ℕ)) (table : Option Fixups) where
   same_action : (kinds : ShownKinds) (kind : KindOfFixup) (auth : Option Auth) → kinds.rebases ≡ false → keeps_kind kinds kind ≡ true
       → action_of parts symbols libs table kind auth ≡ action_of parts others libs table kind auth
   same_action kinds (rebase target) auth none kept = absurd (cc (none, kept))
@@ -67,7 +67,7 @@ module _ (parts : List SegmentStretches) (symbols others : ℕ → Option Pointe
   -- ---- the symbols are those of an image if rebases are shown
 
   module _ (has_raw : Bool) (shown : Selection) (lists : PointerLists) where
-    abbrev lines_by : (ℕ → Option PointerSymbol) → PointerRows
+    abbrev lines_by : (ℕ → Option SymbolBelow) → PointerRows
     lines_by seen = rows_shown has_raw shown (kinds_in_lines shown) parts seen libs table lists
 
     pub lines_unseen : (has_rebases : Bool) → has_rebases ≡ (shown.rebases || shown.chains) → (has_rebases ≡ true → symbols ≡ others)
@@ -77,7 +77,7 @@ module _ (parts : List SegmentStretches) (symbols others : ℕ → Option Pointe
         let none = or_parts shown.rebases shown.chains (sym is) in
         same_rows has_raw shown (kinds_in_lines shown) lists none.0 refl refl (sym is)
 
-    abbrev objects_by : (ℕ → Option PointerSymbol) → PointerRows
+    abbrev objects_by : (ℕ → Option SymbolBelow) → PointerRows
     objects_by seen = rows_shown has_raw shown (kinds_in_objects shown) parts seen libs table lists
 
     pub objects_unseen : (has_rebases : Bool) → has_rebases ≡ (shown.rebases || shown.chains) → (has_rebases ≡ true → symbols ≡ others)

@@ -7,12 +7,13 @@ use Rattle.goblin_mach.specs.Facts.{HasSegments, HasLibraries, HasChainedFixups}
 use Rattle.goblin_mach.specs.Image.{LossyOpens}
 use Rattle.machfixups.specs.Lists.{PointerLists, HasPointerLists}
 use Rattle.goblin_mach.specs.AllStretches.{parts_of}
+use Rattle.goblin_mach.specs.SymbolAtAddress.{SymbolBelow}
 use Rattle.machfixups.specs.Headed.{headed}
 use Rattle.machfixups.specs.RowFields.{heading_line, lines_reported}
 use Rattle.machfixups.specs.Rows.{PointerRows, line_rows, readable_table, rows_in_order}
 use Rattle.mach_cli.specs.Listings.{AreFirstLines}
 use Rattle.mach_cli.specs.Shown.{ImageLines}
-use Rattle.machfixups.specs.TargetSymbols.{PointerSymbol, HasTargetSymbols}
+use Rattle.machfixups.specs.TargetSymbols.{HasTargetSymbols}
 use Rattle.machfixups.specs.declared.rows.Selection.{Selection}
 
 -- The text is the lines of the first of these rows, as many as are left of the limit, in order, and a line if there are more. A row
@@ -36,7 +37,7 @@ pub record AreImagePointerLines (selection : Selection) (limit left : ℕ) (byte
   pub has_libs : HasLibraries bytes 0 libs
   pub chained : Result (Option Fixups) Fault
   pub has_chained : HasChainedFixups bytes 0 chained
-  pub symbols : ℕ → Option PointerSymbol
+  pub symbols : ℕ → Option SymbolBelow
   pub has_symbols : HasTargetSymbols bytes 0 symbols
   pub lines : ArePointerLines limit left (line_rows selection (parts_of (length bytes) segments) symbols libs (readable_table chained) lists) text whole rest
 

@@ -9,10 +9,11 @@ use Rattle.mach_cli.specs.Fields.{fields_object}
 use Rattle.mach_cli.specs.JsonArrays.{AreListMembers, NamedRows}
 use Rattle.machfixups.specs.Lists.{PointerLists, HasPointerLists}
 use Rattle.goblin_mach.specs.AllStretches.{parts_of}
+use Rattle.goblin_mach.specs.SymbolAtAddress.{SymbolBelow}
 use Rattle.machfixups.specs.RowFields.{texts_reported}
 use Rattle.machfixups.specs.Rows.{PointerRow, PointerRows, object_rows, readable_table}
 use Rattle.mach_cli.specs.Shown.{ImageLines}
-use Rattle.machfixups.specs.TargetSymbols.{PointerSymbol, HasTargetSymbols}
+use Rattle.machfixups.specs.TargetSymbols.{HasTargetSymbols}
 use Rattle.machfixups.specs.declared.rows.Selection.{Selection}
 
 -- the objects of a list, with the name of its member
@@ -43,7 +44,7 @@ pub record AreImagePointerMembers (selection : Selection) (left : ℕ) (bytes : 
   pub has_libs : HasLibraries bytes 0 libs
   pub chained : Result (Option Fixups) Fault
   pub has_chained : HasChainedFixups bytes 0 chained
-  pub symbols : ℕ → Option PointerSymbol
+  pub symbols : ℕ → Option SymbolBelow
   pub has_symbols : HasTargetSymbols bytes 0 symbols
   pub members : AreListMembers left (pointer_members (object_rows selection (parts_of (length bytes) segments) symbols libs (readable_table chained) lists))
       text whole rest

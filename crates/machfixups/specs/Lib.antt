@@ -3,8 +3,6 @@ pub mod Lists
 pub mod KeptFixups
 pub mod KeptLeft
 pub mod TargetSymbols
-pub mod NameableSections
-pub mod TargetViews
 pub mod Rows
 pub mod PickWords
 pub mod RowsLeft

@@ -15,7 +15,7 @@ use Rattle.mach_cli.specs.Signing.{diverse_by, diversity_by, has_auth, key_by, r
 use Rattle.mach_dyld.specs.declared.rebases.RebaseKind.{RebaseKind}
 use Rattle.mach_dyld.specs.declared.rebases.RebaseKind.TheVariants.{Pointer, TextAbsolute32, TextRelative32}
 use Rattle.machfixups.specs.Rows.{PointerPlace, PointerBind, binds, binds_weakly, rebases, is_value, PointerRow, corrects, is_strong, row_view}
-use Rattle.machfixups.specs.TargetSymbols.{PointerSymbol}
+use Rattle.goblin_mach.specs.SymbolAtAddress.{SymbolBelow}
 use Rattle.machfixups.specs.declared.row.Row.{Row}
 
 -- the line above the rows of an image: what their first six columns hold
@@ -87,11 +87,11 @@ raw_member (Some raw) = object_field (codes "raw") (hex raw)
 raw_member None = line_field (text []) 0
 
 -- how far a target is above its symbol, and the name of that; null if there is none
-abbrev pub distance_field : Option PointerSymbol → FieldView
+abbrev pub distance_field : Option SymbolBelow → FieldView
 distance_field (Some symbol) = object_field (codes "target_distance") (number symbol.distance)
 distance_field None = object_field (codes "target_distance") (optional_text None)
 
-abbrev pub symbol_field : Option PointerSymbol → FieldView
+abbrev pub symbol_field : Option SymbolBelow → FieldView
 symbol_field (Some symbol) = object_field (codes "target_symbol") (optional_text (Some symbol.name))
 symbol_field None = object_field (codes "target_symbol") (optional_text None)
 
@@ -131,7 +131,7 @@ weak_fields p b =
     ∷ []
 
 -- all that an object has, and what a line has up to the target
-abbrev pub rebase_fields : (place target : PointerPlace) → Option PointerSymbol → RebaseKind → Option Auth → (raw : Option ℕ) → List FieldView
+abbrev pub rebase_fields : (place target : PointerPlace) → Option SymbolBelow → RebaseKind → Option Auth → (raw : Option ℕ) → List FieldView
 rebase_fields p target symbol kind auth raw =
     address_field p
     ∷ object_field (codes "diversity") (number (diversity_by auth))
@@ -228,7 +228,7 @@ abbrev pub pointer_row_fields : Row → List FieldView
 pointer_row_fields row = pointer_fields (row_view row)
 
 -- the symbol at a target, after a space, and how far the target is above it
-abbrev pub symbol_text : Option PointerSymbol → List ℕ
+abbrev pub symbol_text : Option SymbolBelow → List ℕ
 symbol_text (Some symbol) = codes " " ++ (escaped_text symbol.name ++ (codes "+" ++ hex_text symbol.distance))
 symbol_text None = []
 

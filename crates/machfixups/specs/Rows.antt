@@ -22,7 +22,8 @@ use Rattle.mach_dyld.specs.declared.rebases.RebaseKind.TheVariants.{Pointer, Tex
 use Rattle.machfixups.specs.Lists.{PointerLists}
 use Rattle.mach_cli.specs.Origins.{ordinal_of, origin_of, provider_name}
 use Rattle.machfixups.specs.StoredPointers.{PointerSource, raw_of}
-use Rattle.machfixups.specs.TargetSymbols.{PointerSymbol, target_symbol_option_view}
+use Rattle.goblin_mach.specs.SymbolAtAddress.{SymbolBelow}
+use Rattle.machfixups.specs.TargetSymbols.{target_symbol_option_view}
 use Rattle.goblin_mach.specs.AllStretches.{SegmentStretches, part_with}
 use Rattle.mach_cli.specs.SectionNames.{section_name_with, stretch_name}
 use Rattle.machfixups.specs.KeptFixups.{kept_fixups, kinds_in_lines, kinds_in_objects}
@@ -59,7 +60,7 @@ pub record PointerBind : Type 0 where
 pub data Action : Type 0 where
   binds : PointerBind → Action
   binds_weakly : PointerBind → Action
-  rebases : (target : PointerPlace) → Option PointerSymbol → RebaseKind → Option Auth → Action
+  rebases : (target : PointerPlace) → Option SymbolBelow → RebaseKind → Option Auth → Action
   is_value : ℕ → Action
 
 -- a place and what is stored there, with the pointer of a chain that is shown; or the name of a strong definition of the image's own
@@ -77,7 +78,7 @@ abbrev pub place_by_address : List SegmentStretches → ℕ → PointerPlace
 place_by_address parts address = place_in (part_with address parts) address
 
 -- the symbol at a target, if a section holds it
-abbrev pub symbol_there : (symbols : ℕ → Option PointerSymbol) → (target : PointerPlace) → Option PointerSymbol
+abbrev pub symbol_there : (symbols : ℕ → Option SymbolBelow) → (target : PointerPlace) → Option SymbolBelow
 symbol_there symbols target = if is_some target.section then symbols target.address else None
 
 -- the row of an address, in the first segment that holds it
@@ -113,11 +114,11 @@ target_by_kind parts TextAbsolute32 target = place_by_address parts target
 target_by_kind parts TextRelative32 target = place_in None target
 
 -- what a rebase stores: the address of a target, with the symbol there
-abbrev pub rebases_to : (symbols : ℕ → Option PointerSymbol) → (target : PointerPlace) → RebaseKind → Option Auth → Action
+abbrev pub rebases_to : (symbols : ℕ → Option SymbolBelow) → (target : PointerPlace) → RebaseKind → Option Auth → Action
 rebases_to symbols target kind auth = rebases target (symbol_there symbols target) kind auth
 
 -- the row of a rebase, in its segment
-abbrev pub row_of_rebase : List SegmentStretches → (symbols : ℕ → Option PointerSymbol) → Rebase → PointerRow
+abbrev pub row_of_rebase : List SegmentStretches → (symbols : ℕ → Option SymbolBelow) → Rebase → PointerRow
 row_of_rebase parts symbols r =
     row_by_segment parts r.segment r.address (rebases_to symbols (target_by_kind parts r.kind r.target) r.kind r.auth) None
 
@@ -145,21 +146,21 @@ bind_of_import libs i inline auth = record {
   auth = auth;
 }
 
-abbrev pub action_of : List SegmentStretches → (symbols : ℕ → Option PointerSymbol) → (libs : List (List ℕ)) → Option Fixups → KindOfFixup → Option Auth
+abbrev pub action_of : List SegmentStretches → (symbols : ℕ → Option SymbolBelow) → (libs : List (List ℕ)) → Option Fixups → KindOfFixup → Option Auth
     → Result Action Fault
 action_of parts symbols libs table (rebase target) auth = Ok (rebases_to symbols (place_by_address parts target) Pointer auth)
 action_of parts symbols libs table (value number) auth = Ok (is_value number)
 action_of parts symbols libs table (bind import inline) auth = import_in table import >>= (λ i. Ok (binds (bind_of_import libs i inline auth)))
 
 -- the row of a fixup, in its segment
-abbrev pub row_of_fixup : List SegmentStretches → (symbols : ℕ → Option PointerSymbol) → (libs : List (List ℕ)) → Option Fixups → Option PointerSource
+abbrev pub row_of_fixup : List SegmentStretches → (symbols : ℕ → Option SymbolBelow) → (libs : List (List ℕ)) → Option Fixups → Option PointerSource
     → Fixup → Result PointerRow Fault
 row_of_fixup parts symbols libs table source f =
     action_of parts symbols libs table f.kind f.auth >>= (λ action. Ok (row_by_segment parts f.segment f.address action (raw_of source table f)))
 
 -- ---- all rows
 
-abbrev pub row_for_rebase : List SegmentStretches → (symbols : ℕ → Option PointerSymbol) → Result Rebase Fault → Result PointerRow Fault
+abbrev pub row_for_rebase : List SegmentStretches → (symbols : ℕ → Option SymbolBelow) → Result Rebase Fault → Result PointerRow Fault
 row_for_rebase parts symbols item = item >>= (λ r. Ok (row_of_rebase parts symbols r))
 
 abbrev pub row_for_weak : List SegmentStretches → Result WeakBind Fault → Result PointerRow Fault
@@ -168,7 +169,7 @@ row_for_weak parts item = item >>= (λ w. Ok (row_of_weak parts w))
 abbrev pub row_for_binding : List SegmentStretches → Result Binding Fault → Result PointerRow Fault
 row_for_binding parts item = item >>= (λ b. Ok (row_of_binding parts b))
 
-abbrev pub row_for_fixup : List SegmentStretches → (symbols : ℕ → Option PointerSymbol) → (libs : List (List ℕ)) → Option Fixups → Option PointerSource
+abbrev pub row_for_fixup : List SegmentStretches → (symbols : ℕ → Option SymbolBelow) → (libs : List (List ℕ)) → Option Fixups → Option PointerSource
     → Result Fixup Fault → Result PointerRow Fault
 row_for_fixup parts symbols libs table source item = item >>= row_of_fixup parts symbols libs table source
 
@@ -201,7 +202,7 @@ pub record PointerRows : Type 0 where
   pub chains : List (Result PointerRow Fault)
 
 -- a row, or its fault, for each fixup of the chains that is shown
-abbrev pub chain_rows : List SegmentStretches → (symbols : ℕ → Option PointerSymbol) → (libs : List (List ℕ)) → Option Fixups → Option PointerSource
+abbrev pub chain_rows : List SegmentStretches → (symbols : ℕ → Option SymbolBelow) → (libs : List (List ℕ)) → Option Fixups → Option PointerSource
     → ShownKinds → List (Result Fixup Fault) → List (Result PointerRow Fault)
 chain_rows parts symbols libs table source kinds fixups = map (row_for_fixup parts symbols libs table source) (kept_fixups kinds fixups)
 
@@ -211,7 +212,7 @@ source_if has_raw source = if has_raw then Some source else None
 
 -- A row, or its fault, for each rebase of the opcodes, each of their binds, and each weak bind, of the lists that are shown; and for
 -- each fixup of the chains that a list has, after those of the opcodes, perhaps with its pointer.
-abbrev pub rows_shown : (has_raw : Bool) → (shown : Selection) → KindsOfLists → List SegmentStretches → (symbols : ℕ → Option PointerSymbol)
+abbrev pub rows_shown : (has_raw : Bool) → (shown : Selection) → KindsOfLists → List SegmentStretches → (symbols : ℕ → Option SymbolBelow)
     → (libs : List (List ℕ)) → Option Fixups → PointerLists → PointerRows
 rows_shown has_raw shown kinds parts symbols libs table lists = let source = source_if has_raw lists.source in record {
   rebases = picked shown.rebases (map (row_for_rebase parts symbols) lists.rebases)
@@ -222,12 +223,12 @@ rows_shown has_raw shown kinds parts symbols libs table lists = let source = sou
 }
 
 -- the rows that have lines, by what is selected; the pointers of chains are shown if the chains are
-abbrev pub line_rows : Selection → List SegmentStretches → (symbols : ℕ → Option PointerSymbol) → (libs : List (List ℕ)) → Option Fixups → PointerLists
+abbrev pub line_rows : Selection → List SegmentStretches → (symbols : ℕ → Option SymbolBelow) → (libs : List (List ℕ)) → Option Fixups → PointerLists
     → PointerRows
 line_rows p parts symbols libs table lists = rows_shown p.chains (shown_picks p) (kinds_in_lines (shown_picks p)) parts symbols libs table lists
 
 -- the rows that have objects, by what is selected; the pointers of chains are shown
-abbrev pub object_rows : Selection → List SegmentStretches → (symbols : ℕ → Option PointerSymbol) → (libs : List (List ℕ)) → Option Fixups → PointerLists
+abbrev pub object_rows : Selection → List SegmentStretches → (symbols : ℕ → Option SymbolBelow) → (libs : List (List ℕ)) → Option Fixups → PointerLists
     → PointerRows
 object_rows p parts symbols libs table lists = rows_shown true (shown_picks p) (kinds_in_objects (shown_picks p)) parts symbols libs table lists
 

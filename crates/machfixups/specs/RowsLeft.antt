@@ -9,15 +9,15 @@ use Rattle.goblin_mach.specs.AllStretches.{SegmentStretches, parts_view}
 use Rattle.machfixups.specs.KeptLeft.{kept_left}
 use Rattle.machfixups.specs.Rows.{PointerRow, PointerRows, row_for_rebase, row_for_binding, row_for_weak, row_for_fixup, fixups_table_view}
 use Rattle.machfixups.specs.StoredPointers.{source_option_view}
-use Rattle.machfixups.specs.TargetSymbols.{PointerSymbol}
-use Rattle.machfixups.specs.TargetViews.{symbols_seen}
+use Rattle.goblin_mach.specs.SymbolAtAddress.{SymbolBelow}
+use Rattle.machfixups.specs.TargetSymbols.{symbols_seen}
 use Rattle.machfixups.specs.declared.lists.ImageRows as image
 use Rattle.machfixups.specs.declared.rows.Items as declared
 use Rattle.machfixups.specs.declared.rows.Items.TheVariants as variants
 use Rattle.machfixups.specs.declared.rows.Rows as over
 
 -- those of the opcodes
-abbrev pub rows_of_items : List SegmentStretches → (symbols : ℕ → Option PointerSymbol) → declared.Items → List (Result PointerRow Fault)
+abbrev pub rows_of_items : List SegmentStretches → (symbols : ℕ → Option SymbolBelow) → declared.Items → List (Result PointerRow Fault)
 rows_of_items parts symbols variants.Hidden = []
 rows_of_items parts symbols (variants.Rebases items) = map (row_for_rebase parts symbols) (opcode_rebases_left items)
 rows_of_items parts symbols (variants.Binds items) = map (row_for_binding parts) (opcode_bindings_left items)

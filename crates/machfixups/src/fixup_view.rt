@@ -5,7 +5,7 @@ ghost use Rattle.machfixups.specs.ImageLines.{image_pointer_lines};
 use crate::headed::Headed;
 use crate::lists::ImageRows;
 use crate::rows::Selection;
-use crate::target_symbols::TargetSymbols;
+use crate::target_symbols::target_symbols;
 use goblin_mach::{AllStretches, MachO};
 use mach_cli::{ImageView, Outcome, ShowFailure, print_listing};
 use std::alloc::Allocator;
@@ -35,7 +35,7 @@ impl ImageView for FixupLines {
     ) -> Result<Outcome, ShowFailure> {
         let parts = AllStretches::of_image(alloc, image)?;
         let shown = self.selection.shown();
-        let symbols = TargetSymbols::of(alloc, image, shown.has_rebases())?;
+        let symbols = target_symbols(alloc, image, shown.has_rebases())?;
         let list = ImageRows::of(
             image,
             &parts,

@@ -5,7 +5,7 @@ ghost use Rattle.machfixups.specs.JsonImages.{image_pointer_members};
 use crate::lists::ImageRows;
 use crate::members::write_members;
 use crate::rows::Selection;
-use crate::target_symbols::TargetSymbols;
+use crate::target_symbols::target_symbols;
 use goblin_mach::{AllStretches, MachO};
 use mach_cli::{ImageView, Outcome, ShowFailure};
 use std::alloc::Allocator;
@@ -31,7 +31,7 @@ impl ImageView for FixupObjects {
     ) -> Result<Outcome, ShowFailure> {
         let parts = AllStretches::of_image(alloc, image)?;
         let shown = self.selection.shown();
-        let symbols = TargetSymbols::of(alloc, image, shown.has_rebases())?;
+        let symbols = target_symbols(alloc, image, shown.has_rebases())?;
         let kinds = shown.kinds_in_objects();
         let rows = ImageRows::of(image, &parts, &symbols, shown, kinds, true);
         Ok(write_members(rows, left, out)?)

@@ -14,16 +14,15 @@ ghost use Rattle.machfixups.specs.KeptLeft.{kept_left};
 ghost use Rattle.machfixups.specs.Rows.{fixups_table_view, picked, readable_table, row_for_fixup, rows_in_order, rows_shown};
 ghost use Rattle.machfixups.specs.RowsLeft.{image_rows_left, rows_left, rows_of_items};
 ghost use Rattle.machfixups.specs.StoredPointers.{source_option_view};
-ghost use Rattle.machfixups.specs.TargetViews.{symbols_seen};
+ghost use Rattle.machfixups.specs.TargetSymbols.{symbols_seen};
 
 use crate::fields::{write_line, write_row};
 use crate::kept_fixups::{KeptFixups, KindsOfLists};
 use crate::row::Row;
 use crate::rows::{Items, Rows, Selection};
 use crate::stored_pointers::StoredPointers;
-use crate::target_symbols::TargetSymbols;
 use goblin_mach::chained_fixups::ChainedFixups;
-use goblin_mach::{AllStretches, MachO, laws};
+use goblin_mach::{AddressMap, AllStretches, MachO, laws};
 use mach_cli::{FieldsForm, ItemList, Listing};
 use std::alloc::Allocator;
 use std::io;
@@ -69,7 +68,7 @@ fn table_of<'a, A: Allocator>(image: &MachO<'a, A>) -> Option<ChainedFixups<'a>>
 #[derive(Drop)]
 struct Sources<'p, 'a, 'b, A: Allocator> {
     parts: &'p AllStretches<A>,
-    symbols: &'p Option<TargetSymbols<'a, 'b, A>>,
+    symbols: &'p Option<AddressMap<'a, 'b, A, A>>,
     libs: &'b [&'a str],
     table: Option<ChainedFixups<'a>>,
     source: Option<StoredPointers<'a, 'b>>,
@@ -104,7 +103,7 @@ impl<'p, 'a, 'b, B: Allocator> ImageRows<'p, 'a, 'b, B> {
     pub fn of<A: Allocator>(
         image: &'b MachO<'a, A>,
         parts: &'p AllStretches<B>,
-        symbols: &'p Option<TargetSymbols<'a, 'b, B>>,
+        symbols: &'p Option<AddressMap<'a, 'b, B, B>>,
         shown: Selection,
         kinds: KindsOfLists,
         has_raw: bool,

@@ -16,14 +16,14 @@ ghost use Rattle.machfixups.specs.Rows.{import_in, action_of, bind_of_import, re
 ghost use Rattle.machfixups.specs.Rows.{row_for_binding, row_for_rebase, row_for_weak, row_for_fixup, place_view, bind_view, action_view, row_view};
 ghost use Rattle.machfixups.specs.Rows.{row_of_fixup, row_read, fixups_table_view};
 ghost use Rattle.machfixups.specs.StoredPointers.{source_option_view};
-ghost use Rattle.machfixups.specs.TargetSymbols.{target_symbol_option_view};
-ghost use Rattle.machfixups.specs.TargetViews.{symbols_seen};
+ghost use Rattle.machfixups.specs.TargetSymbols.{symbols_seen, target_symbol_option_view};
 
 use crate::stored_pointers::{StoredPointers, raw_of};
-use crate::target_symbols::{TargetSymbol, TargetSymbols};
+use crate::target_symbols::{TargetSymbol, symbol_to_show};
 use goblin_mach::chained_fixups::{ChainedFixups, ChainedImport, Fixup, FixupKind, PointerAuth};
 use goblin_mach::{
-    AllStretches, Binding, Error, Rebase, RebaseKind, Result, SegmentStretches, WeakBind,
+    AddressMap, AllStretches, Binding, Error, Rebase, RebaseKind, Result, SegmentStretches,
+    WeakBind,
 };
 use mach_cli::{ordinal_of, origin_of, provider_name, section_name_with, stretch_name};
 use std::alloc::Allocator;
@@ -130,13 +130,13 @@ fn target_by_kind<'b, A: Allocator>(
 
 // Returns the symbol at a target, if a section holds it.
 fn symbol_there<'a, A: Allocator>(
-    symbols: &Option<TargetSymbols<'a, '_, A>>,
+    symbols: &Option<AddressMap<'a, '_, A, A>>,
     target: &Location<'_>,
 ) -> Option<TargetSymbol<'a>>
     ensures { target_symbol_option_view result ≡ symbol_there (symbols_seen symbols.now) (place_view target.now) }
 {
     match (symbols, target.section) {
-        (Some(symbols), Some(_)) => symbols.at(target.address),
+        (Some(symbols), Some(_)) => symbol_to_show(symbols.symbol_at(target.address)),
         (Some(_), None) => None,
         (None, _) => None,
     }
@@ -144,7 +144,7 @@ fn symbol_there<'a, A: Allocator>(
 
 // Returns what a rebase to a target stores, with the symbol there.
 fn rebase_to<'b, 'a, A: Allocator>(
-    symbols: &Option<TargetSymbols<'a, '_, A>>,
+    symbols: &Option<AddressMap<'a, '_, A, A>>,
     target: Location<'b>,
     kind: RebaseKind,
     auth: Option<PointerAuth>,
@@ -240,7 +240,7 @@ fn bind_of_import<'a>(
 // Returns what a fixup stores.
 fn action_of<'b, 'a, A: Allocator>(
     parts: &'b AllStretches<A>,
-    symbols: &Option<TargetSymbols<'a, '_, A>>,
+    symbols: &Option<AddressMap<'a, '_, A, A>>,
     libs: &[&'a str],
     table: &Option<ChainedFixups<'a>>,
     fixup: &Fixup,
@@ -265,7 +265,7 @@ fn action_of<'b, 'a, A: Allocator>(
 // Returns the row of a fixup of the chains, in its segment; an error if the import of a bind can't be read.
 fn row_of_fixup<'b, 'a, A: Allocator>(
     parts: &'b AllStretches<A>,
-    symbols: &Option<TargetSymbols<'a, '_, A>>,
+    symbols: &Option<AddressMap<'a, '_, A, A>>,
     libs: &[&'a str],
     table: &Option<ChainedFixups<'a>>,
     source: &Option<StoredPointers<'_, '_>>,
@@ -282,7 +282,7 @@ fn row_of_fixup<'b, 'a, A: Allocator>(
 /// Returns the row of a rebase of the opcodes; its place is in its own segment.
 pub fn rebase_row<'b, 'a, A: Allocator>(
     parts: &'b AllStretches<A>,
-    symbols: &Option<TargetSymbols<'a, '_, A>>,
+    symbols: &Option<AddressMap<'a, '_, A, A>>,
     item: Result<Rebase>,
 ) -> Result<Row<'b, 'a>>
     ensures { row_read result ≡ row_for_rebase (parts_view parts.now) (symbols_seen symbols.now) (rebase_read item) }
@@ -324,7 +324,7 @@ pub fn binding_row<'b, 'a, A: Allocator>(
 /// Returns the row of a fixup of the chains, given the image's libraries.
 pub fn fixup_row<'b, 'a, A: Allocator>(
     parts: &'b AllStretches<A>,
-    symbols: &Option<TargetSymbols<'a, '_, A>>,
+    symbols: &Option<AddressMap<'a, '_, A, A>>,
     libs: &[&'a str],
     table: &Option<ChainedFixups<'a>>,
     source: &Option<StoredPointers<'_, '_>>,

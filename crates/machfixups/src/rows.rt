@@ -6,15 +6,14 @@ ghost use Rattle.goblin_mach.specs.AllStretches.{parts_view};
 ghost use Rattle.machfixups.specs.KeptFixups.{kinds_in_lines, kinds_in_objects};
 ghost use Rattle.machfixups.specs.Rows.{row_read, shown_picks};
 ghost use Rattle.machfixups.specs.RowsLeft.{rows_left, rows_of_items};
-ghost use Rattle.machfixups.specs.TargetViews.{symbols_seen};
+ghost use Rattle.machfixups.specs.TargetSymbols.{symbols_seen};
 
 use crate::kept_fixups::{KeptFixups, KindsOfLists, ShownKinds};
 use crate::row::{Row, binding_row, fixup_row, rebase_row, weak_row};
 use crate::stored_pointers::StoredPointers;
-use crate::target_symbols::TargetSymbols;
 use goblin_mach::chained_fixups::ChainedFixups;
 use goblin_mach::{
-    AllStretches, OpcodeBindingIterator, OpcodeRebaseIterator, Result, WeakBindIterator,
+    AddressMap, AllStretches, OpcodeBindingIterator, OpcodeRebaseIterator, Result, WeakBindIterator,
 };
 use std::alloc::Allocator;
 
@@ -112,7 +111,7 @@ impl<'a, 'b> Items<'a, 'b> {
     fn next_row<'p, A: Allocator>(
         &mut self,
         parts: &'p AllStretches<A>,
-        symbols: &Option<TargetSymbols<'a, '_, A>>,
+        symbols: &Option<AddressMap<'a, '_, A, A>>,
     ) -> Option<Result<Row<'p, 'a>>>
         ensures { YieldsFirstBy row_read (rows_of_items (parts_view parts.now) (symbols_seen symbols.now)) self.old result self.new }
     {
@@ -140,7 +139,7 @@ pub struct Rows<'p, 'a, 'b, A: Allocator> {
     /// The segments that hold its items.
     pub parts: &'p AllStretches<A>,
     /// The symbols at the targets of its rebases.
-    pub symbols: &'p Option<TargetSymbols<'a, 'b, A>>,
+    pub symbols: &'p Option<AddressMap<'a, 'b, A, A>>,
     /// The image's libraries, by ordinal.
     pub libs: &'b [&'a str],
     /// The chained fixups with the imports of its binds.

@@ -13,7 +13,7 @@ ghost use Rattle.goblin_mach.specs.OpenImage.{segments_view};
 
 use crate::addresses::FoundAt;
 use crate::addresses::stretches::{Stretch, Stretches};
-use crate::macho::{Function, MachO, claimed_before};
+use crate::macho::{Function, MachO, SymbolAt, claimed_before};
 use crate::symbol_map::SymbolMap;
 use mach_base::Error;
 use mach_load::FunctionStartIterator;
@@ -171,8 +171,10 @@ impl<'a, 'b, A: Allocator, B: Allocator + Clone> AddressMap<'a, 'b, A, B> {
 
 impl<'a, 'b, A: Allocator, B: Allocator> AddressMap<'a, 'b, A, B> {
     ghost use Rattle.goblin_mach.specs.AddressFound.{IsFoundAt};
+    ghost use Rattle.goblin_mach.specs.NearestSymbol.{IsSymbolAt};
     ghost use Rattle.goblin_mach.specs.OpenImage.{IsLossyImage};
-    ghost use Rattle.goblin_mach.specs.SymbolMaps.{image_of_addresses};
+    ghost use Rattle.goblin_mach.specs.SymbolAtAddress.{image_symbol_at, symbol_below};
+    ghost use Rattle.goblin_mach.specs.SymbolMaps.{image_of_addresses, image_symbols};
 
     /// Returns the image.
     pub fn image(&self) -> &'b MachO<'a, A>
@@ -187,6 +189,18 @@ impl<'a, 'b, A: Allocator, B: Allocator> AddressMap<'a, 'b, A, B> {
     {
         let number = self.memory.first_with(address)?;
         item_at(self.sections.as_slice(), number)
+    }
+
+    /// Returns the symbol at an address, before sliding, as `MachO::symbol_at` does: in log n steps and the reading of one name.
+    pub fn symbol_at(&self, address: u64) -> Option<SymbolAt<'a>>
+        ensures nearest { let image = image_of_addresses self.now in
+            IsSymbolAt (segments_view image) (image_symbols image) (section_holding (segments_view image) address) address result }
+        ensures determined { option_map symbol_below result ≡ image_symbol_at (image_of_addresses self.now) address }
+    {
+        match self.section_with(address) {
+            Some(mapped) => self.symbols.symbol_in_section(mapped.n_sect, address),
+            None => None,
+        }
     }
 
     /// Looks up an address in the image, in log n steps and the reading of one name.

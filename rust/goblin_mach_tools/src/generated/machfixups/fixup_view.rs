@@ -6,7 +6,7 @@ use crate::generated::mach_cli::{ImageView, Outcome, ShowFailure, print_listing}
 use crate::generated::machfixups::headed::Headed;
 use crate::generated::machfixups::lists::ImageRows;
 use crate::generated::machfixups::rows::Selection;
-use crate::generated::machfixups::target_symbols::TargetSymbols;
+use crate::generated::machfixups::target_symbols::target_symbols;
 use crate::shim::io::Write;
 use goblin_mach::{AllStretches, MachO};
 
@@ -31,7 +31,7 @@ impl ImageView for FixupLines {
     ) -> Result<Outcome, ShowFailure> {
         let parts = AllStretches::of_image(image)?;
         let shown = self.selection.shown();
-        let symbols = TargetSymbols::of(image, shown.has_rebases())?;
+        let symbols = target_symbols(image, shown.has_rebases())?;
         let list = ImageRows::of(
             image,
             &parts,

@@ -6,7 +6,7 @@ use crate::generated::mach_cli::{ImageView, Outcome, ShowFailure};
 use crate::generated::machfixups::lists::ImageRows;
 use crate::generated::machfixups::members::write_members;
 use crate::generated::machfixups::rows::Selection;
-use crate::generated::machfixups::target_symbols::TargetSymbols;
+use crate::generated::machfixups::target_symbols::target_symbols;
 use crate::shim::io::Write;
 use goblin_mach::{AllStretches, MachO};
 
@@ -27,7 +27,7 @@ impl ImageView for FixupObjects {
     ) -> Result<Outcome, ShowFailure> {
         let parts = AllStretches::of_image(image)?;
         let shown = self.selection.shown();
-        let symbols = TargetSymbols::of(image, shown.has_rebases())?;
+        let symbols = target_symbols(image, shown.has_rebases())?;
         let kinds = shown.kinds_in_objects();
         let rows = ImageRows::of(image, &parts, &symbols, shown, kinds, true);
         Ok(write_members(rows, left, out)?)

@@ -8,11 +8,10 @@ use crate::generated::machfixups::kept_fixups::{KeptFixups, KindsOfLists};
 use crate::generated::machfixups::row::Row;
 use crate::generated::machfixups::rows::{Items, Rows, Selection};
 use crate::generated::machfixups::stored_pointers::StoredPointers;
-use crate::generated::machfixups::target_symbols::TargetSymbols;
 use crate::shim::io;
 use crate::shim::io::Write;
 use goblin_mach::chained_fixups::ChainedFixups;
-use goblin_mach::{AllStretches, MachO};
+use goblin_mach::{AddressMap, AllStretches, MachO};
 
 impl<'p, 'a> ItemList for Rows<'p, 'a, '_> {
     type Item = Row<'p, 'a>;
@@ -46,7 +45,7 @@ fn table_of<'a>(image: &MachO<'a>) -> Option<ChainedFixups<'a>> {
 // What the rows of all lists of an image are read from.
 struct Sources<'p, 'a, 'b> {
     parts: &'p AllStretches,
-    symbols: &'p Option<TargetSymbols<'a, 'b>>,
+    symbols: &'p Option<AddressMap<'a, 'b>>,
     libs: &'b [&'a str],
     table: Option<ChainedFixups<'a>>,
     source: Option<StoredPointers<'a, 'b>>,
@@ -82,7 +81,7 @@ impl<'p, 'a, 'b> ImageRows<'p, 'a, 'b> {
     pub fn of(
         image: &'b MachO<'a>,
         parts: &'p AllStretches,
-        symbols: &'p Option<TargetSymbols<'a, 'b>>,
+        symbols: &'p Option<AddressMap<'a, 'b>>,
         shown: Selection,
         kinds: KindsOfLists,
         has_raw: bool,

@@ -6,10 +6,11 @@ use crate::generated::mach_cli::{
     ordinal_of, origin_of, provider_name, section_name_with, stretch_name,
 };
 use crate::generated::machfixups::stored_pointers::{StoredPointers, raw_of};
-use crate::generated::machfixups::target_symbols::{TargetSymbol, TargetSymbols};
+use crate::generated::machfixups::target_symbols::{TargetSymbol, symbol_to_show};
 use goblin_mach::chained_fixups::{ChainedFixups, ChainedImport, Fixup, FixupKind, PointerAuth};
 use goblin_mach::{
-    AllStretches, Binding, Error, Rebase, RebaseKind, Result, SegmentStretches, WeakBind,
+    AddressMap, AllStretches, Binding, Error, Rebase, RebaseKind, Result, SegmentStretches,
+    WeakBind,
 };
 
 /// An address.
@@ -104,11 +105,11 @@ fn target_by_kind<'b>(parts: &'b AllStretches, kind: RebaseKind, target: u64) ->
 
 // Returns the symbol at a target, if a section holds it.
 fn symbol_there<'a>(
-    symbols: &Option<TargetSymbols<'a, '_>>,
+    symbols: &Option<AddressMap<'a, '_>>,
     target: &Location<'_>,
 ) -> Option<TargetSymbol<'a>> {
     match (symbols, target.section) {
-        (Some(symbols), Some(_)) => symbols.at(target.address),
+        (Some(symbols), Some(_)) => symbol_to_show(symbols.symbol_at(target.address)),
         (Some(_), None) => None,
         (None, _) => None,
     }
@@ -116,7 +117,7 @@ fn symbol_there<'a>(
 
 // Returns what a rebase to a target stores, with the symbol there.
 fn rebase_to<'b, 'a>(
-    symbols: &Option<TargetSymbols<'a, '_>>,
+    symbols: &Option<AddressMap<'a, '_>>,
     target: Location<'b>,
     kind: RebaseKind,
     auth: Option<PointerAuth>,
@@ -200,7 +201,7 @@ fn bind_of_import<'a>(
 // Returns what a fixup stores.
 fn action_of<'b, 'a>(
     parts: &'b AllStretches,
-    symbols: &Option<TargetSymbols<'a, '_>>,
+    symbols: &Option<AddressMap<'a, '_>>,
     libs: &[&'a str],
     table: &Option<ChainedFixups<'a>>,
     fixup: &Fixup,
@@ -222,7 +223,7 @@ fn action_of<'b, 'a>(
 // Returns the row of a fixup of the chains, in its segment; an error if the import of a bind can't be read.
 fn row_of_fixup<'b, 'a>(
     parts: &'b AllStretches,
-    symbols: &Option<TargetSymbols<'a, '_>>,
+    symbols: &Option<AddressMap<'a, '_>>,
     libs: &[&'a str],
     table: &Option<ChainedFixups<'a>>,
     source: &Option<StoredPointers<'_, '_>>,
@@ -248,7 +249,7 @@ fn row_of_fixup<'b, 'a>(
 /// </details>
 pub fn rebase_row<'b, 'a>(
     parts: &'b AllStretches,
-    symbols: &Option<TargetSymbols<'a, '_>>,
+    symbols: &Option<AddressMap<'a, '_>>,
     item: Result<Rebase>,
 ) -> Result<Row<'b, 'a>> {
     let rebase = item?;
@@ -308,7 +309,7 @@ pub fn binding_row<'b, 'a>(
 /// </details>
 pub fn fixup_row<'b, 'a>(
     parts: &'b AllStretches,
-    symbols: &Option<TargetSymbols<'a, '_>>,
+    symbols: &Option<AddressMap<'a, '_>>,
     libs: &[&'a str],
     table: &Option<ChainedFixups<'a>>,
     source: &Option<StoredPointers<'_, '_>>,

@@ -5,10 +5,9 @@
 use crate::generated::machfixups::kept_fixups::{KeptFixups, KindsOfLists, ShownKinds};
 use crate::generated::machfixups::row::{Row, binding_row, fixup_row, rebase_row, weak_row};
 use crate::generated::machfixups::stored_pointers::StoredPointers;
-use crate::generated::machfixups::target_symbols::TargetSymbols;
 use goblin_mach::chained_fixups::ChainedFixups;
 use goblin_mach::{
-    AllStretches, OpcodeBindingIterator, OpcodeRebaseIterator, Result, WeakBindIterator,
+    AddressMap, AllStretches, OpcodeBindingIterator, OpcodeRebaseIterator, Result, WeakBindIterator,
 };
 
 /// Which lists are selected.
@@ -120,7 +119,7 @@ impl<'a, 'b> Items<'a, 'b> {
     fn next_row<'p>(
         &mut self,
         parts: &'p AllStretches,
-        symbols: &Option<TargetSymbols<'a, '_>>,
+        symbols: &Option<AddressMap<'a, '_>>,
     ) -> Option<Result<Row<'p, 'a>>> {
         match self {
             Items::Hidden => None,
@@ -145,7 +144,7 @@ pub struct Rows<'p, 'a, 'b> {
     /// The segments that hold its items.
     pub parts: &'p AllStretches,
     /// The symbols at the targets of its rebases.
-    pub symbols: &'p Option<TargetSymbols<'a, 'b>>,
+    pub symbols: &'p Option<AddressMap<'a, 'b>>,
     /// The image's libraries, by ordinal.
     pub libs: &'b [&'a str],
     /// The chained fixups with the imports of its binds.

@@ -2,14 +2,8 @@
 //! The symbols at the targets of rebases.
 #![forbid(unsafe_code)]
 
-use alloc::vec::Vec;
-use goblin_mach::internals::shim::TryGrow;
-
 use goblin_mach::AllocError;
-use goblin_mach::segment::NumberedSection;
-use goblin_mach::segment::ReadableSections;
-use goblin_mach::symbols::MAX_SECT;
-use goblin_mach::{MachO, SymbolAt, SymbolMap};
+use goblin_mach::{AddressMap, MachO, SymbolAt};
 
 /// A symbol, and how far an address is above its value.
 #[derive(Clone, Copy)]
@@ -18,86 +12,39 @@ pub struct TargetSymbol<'a> {
     pub distance: u64,
 }
 
-// A section, with the number by which symbols name it.
-#[derive(Clone, Copy)]
-struct NameableSection {
-    section: NumberedSection,
-    number: usize,
-}
-
-/// The symbols of an image by address: the sections that symbols can name, and the symbols of each, sorted.
-pub struct TargetSymbols<'a, 'b> {
-    symbols: SymbolMap<'a, 'b>,
-    sections: Vec<NameableSection>,
-}
-
-// Returns the sections of an image that symbols can name, in order.
-fn nameable_sections(image: &MachO<'_>) -> Result<Vec<NameableSection>, AllocError> {
-    let mut sections = Vec::new();
-    for section in ReadableSections::new(image.segments.as_slice()) {
-        if sections.len() >= usize::from(MAX_SECT) {
-            return Ok(sections);
-        }
-        let number = image.section_number(&section);
-        sections.try_push(NameableSection { section, number })?;
-    }
-    Ok(sections)
-}
-
-// Returns the number of the first section that holds an address, if one does.
-fn number_at(sections: &[NameableSection], address: u64) -> Option<usize> {
-    for named in sections {
-        if named.section.holds(address) {
-            return Some(named.number);
-        }
-    }
-    None
-}
-
-impl<'a, 'b> TargetSymbols<'a, 'b> {
-    /// Returns the symbols of an image by address, if they are shown. It is refused only if memory runs out.
-    ///
-    /// <details><summary>Proved</summary>
-    ///
-    /// - if `Ok(found)`: if `is_shown ≡ true`, `symbols_seen found ≡ symbols_of_image image`
-    ///
-    /// </details>
-    pub fn of(image: &'b MachO<'a>, is_shown: bool) -> Result<Option<Self>, AllocError> {
-        if !is_shown {
-            return Ok(None);
-        }
-        let sections = nameable_sections(image)?;
-        match SymbolMap::new(image) {
-            Ok(symbols) => Ok(Some(TargetSymbols { symbols, sections })),
-            Err(_) => Err(AllocError),
-        }
+/// Returns what is shown of a symbol, if there is one.
+///
+/// <details><summary>Proved</summary>
+///
+/// - `target_symbol_option_view result ≡ option_map symbol_below found.entry`
+///
+/// </details>
+pub fn symbol_to_show<'a>(found: Option<SymbolAt<'a>>) -> Option<TargetSymbol<'a>> {
+    match found {
+        Some(found) => Some(TargetSymbol {
+            name: found.name,
+            distance: found.distance,
+        }),
+        None => None,
     }
 }
 
-impl<'a> TargetSymbols<'a, '_> {
-    // Returns the symbol at an address as the table has it.
-    fn found_at(&self, address: u64) -> Option<SymbolAt<'a>> {
-        match number_at(&self.sections, address) {
-            Some(number) => self.symbols.symbol_in_section(number, address),
-            None => None,
-        }
+/// Returns the symbols of an image by address, if they are shown. It is refused only if memory runs out.
+///
+/// <details><summary>Proved</summary>
+///
+/// - if `Ok(found)`: if `is_shown ≡ true`, `symbols_seen found ≡ image_symbol_at image`
+///
+/// </details>
+pub fn target_symbols<'a, 'b>(
+    image: &'b MachO<'a>,
+    is_shown: bool,
+) -> Result<Option<AddressMap<'a, 'b>>, AllocError> {
+    if !is_shown {
+        return Ok(None);
     }
-
-    /// Returns the symbol at an address: the nearest of the section that holds it, of those at or below it. After the section is
-    /// found, among at most 255, it takes log n steps.
-    ///
-    /// <details><summary>Proved</summary>
-    ///
-    /// - `target_symbol_option_view result ≡ symbols_of_image (image_of_map self.symbols) address`
-    ///
-    /// </details>
-    pub fn at(&self, address: u64) -> Option<TargetSymbol<'a>> {
-        match self.found_at(address) {
-            Some(found) => Some(TargetSymbol {
-                name: found.name,
-                distance: found.distance,
-            }),
-            None => None,
-        }
+    match AddressMap::new(image) {
+        Ok(symbols) => Ok(Some(symbols)),
+        Err(_) => Err(AllocError),
     }
 }

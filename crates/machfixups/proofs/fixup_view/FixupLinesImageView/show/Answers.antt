@@ -5,7 +5,8 @@ use Rattle.machfixups.specs.ImageLines.{ArePointerLines}
 use Rattle.machfixups.specs.KeptFixups.{kinds_in_lines}
 use Rattle.machfixups.specs.Rows.{PointerRows, line_rows, readable_table, rows_shown}
 use Rattle.machfixups.specs.declared.kept_fixups.KindsOfLists.{KindsOfLists}
-use Rattle.machfixups.specs.TargetViews.{symbols_of_image, symbols_seen}
+use Rattle.goblin_mach.specs.SymbolAtAddress.{image_symbol_at}
+use Rattle.machfixups.specs.TargetSymbols.{symbols_seen}
 use Rattle.machfixups.specs.declared.rows.Selection.{Selection}
 use Rattle.machfixups.proofs.Facts.{has_target_symbols}
 use Rattle.machfixups.proofs.Unseen.{lines_unseen}
@@ -21,7 +22,7 @@ returns-clause-shown g c = λ bytes opened.
     let parts = parts_view c.in_ok-parts.parts in
     let table = readable_table listed.4 in
     let m = c.args.image.now in
-    let symbols = symbols_of_image m in
+    let symbols = image_symbol_at m in
     let seen = symbols_seen c.in_ok-symbols.symbols in
     let has_raw = c.args.self.now.selection.chains in
     let in_kinds = λ (kinds : KindsOfLists). over (rows_shown has_raw c.shown-shown.result kinds parts seen listed.2 table listed.0) in

@@ -17,7 +17,7 @@ use Rattle.machfixups.specs.Lists.{PointerLists}
 use Rattle.machfixups.specs.StoredPointers.{PointerSource, source_option_view}
 use Rattle.machfixups.specs.Rows.{PointerRow, PointerRows, fixups_table_view, picked, readable_table, source_if}
 use Rattle.machfixups.specs.Rows.{row_for_binding, row_for_fixup, row_for_rebase, row_for_weak}
-use Rattle.machfixups.specs.TargetViews.{symbols_seen}
+use Rattle.machfixups.specs.TargetSymbols.{symbols_seen}
 use Rattle.machfixups.proofs.Facts.{has_chained_fixups, has_fixups, has_libraries, has_lists, rows_are}
 use Rattle.machfixups.proofs.lists.ImageRows.of.Goals as goal
 

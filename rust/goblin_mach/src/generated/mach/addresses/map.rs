@@ -7,7 +7,7 @@ use alloc::vec::Vec;
 
 use crate::generated::mach::addresses::FoundAt;
 use crate::generated::mach::addresses::stretches::{Stretch, Stretches};
-use crate::generated::mach::macho::{Function, MachO, claimed_before};
+use crate::generated::mach::macho::{Function, MachO, SymbolAt, claimed_before};
 use crate::generated::mach::symbol_map::SymbolMap;
 use crate::generated::mach_base::Error;
 use crate::generated::mach_load::FunctionStartIterator;
@@ -154,6 +154,21 @@ impl<'a, 'b> AddressMap<'a, 'b> {
     fn section_with(&self, address: u64) -> Option<MappedSection> {
         let number = self.memory.first_with(address)?;
         item_at(self.sections.as_slice(), number)
+    }
+
+    /// Returns the symbol at an address, before sliding, as `MachO::symbol_at` does: in log n steps and the reading of one name.
+    ///
+    /// <details><summary>Proved</summary>
+    ///
+    /// - *nearest*: `let image = image_of_addresses self in IsSymbolAt (segments_view image) (image_symbols image) (section_holding (segments_view image) address) address result`
+    /// - *determined*: `option_map symbol_below result ≡ image_symbol_at (image_of_addresses self) address`
+    ///
+    /// </details>
+    pub fn symbol_at(&self, address: u64) -> Option<SymbolAt<'a>> {
+        match self.section_with(address) {
+            Some(mapped) => self.symbols.symbol_in_section(mapped.n_sect, address),
+            None => None,
+        }
     }
 
     /// Looks up an address in the image, in log n steps and the reading of one name.

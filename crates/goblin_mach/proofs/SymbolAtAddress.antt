@@ -12,7 +12,7 @@ use Rattle.mach_parts.specs.declared.symbols.nlist.Nlist.{Nlist}
 use Rattle.goblin_mach.specs.NearestSymbol.{found_symbol_view, is_below, section_number, IsBelow, IsNearest, IsNearestIn, IsSymbolAt}
 use Rattle.goblin_mach.specs.declared.macho.nearest.SymbolAt.{SymbolAt}
 use Rattle.goblin_mach.proofs.LookUpLaws.{one_symbol}
-use Rattle.machfixups.specs.TargetSymbols.{PointerSymbol, nearer_of, nearest_in_section, nearest_of, pointer_symbol_of}
+use Rattle.goblin_mach.specs.SymbolAtAddress.{SymbolBelow, nearer_of, nearest_in_section, nearest_of, symbol_below}
 
 abbrev Items : Type 0
 Items = List (Result (List ℕ × Nlist) Fault)
@@ -22,7 +22,7 @@ Items = List (Result (List ℕ × Nlist) Fault)
 abbrev moved : SymbolAt → SymbolAt
 moved x = record { index = suc x.index; name = x.name; symbol = x.symbol; distance = x.distance }
 
-nearer_same : (x : Option SymbolAt) → nearer_of None (option_map pointer_symbol_of x) ≡ option_map pointer_symbol_of (option_map moved x)
+nearer_same : (x : Option SymbolAt) → nearer_of None (option_map symbol_below x) ≡ option_map symbol_below (option_map moved x)
 nearer_same None = refl
 nearer_same (Some x) = refl
 
@@ -106,10 +106,10 @@ module _ (n a : ℕ) where
 
   -- there is a nearest symbol or none, and it is that of the definition
   abbrev IsFound : Items → Option SymbolAt → Type 0
-  IsFound items x = IsNearestIn items n a x × (nearest_of n a items ≡ option_map pointer_symbol_of x)
+  IsFound items x = IsNearestIn items n a x × (nearest_of n a items ≡ option_map symbol_below x)
 
   abbrev Found : Items → Type 0
-  Found items = (x : Option SymbolAt) × IsNearestIn items n a x × (nearest_of n a items ≡ option_map pointer_symbol_of x)
+  Found items = (x : Option SymbolAt) × IsNearestIn items n a x × (nearest_of n a items ≡ option_map symbol_below x)
 
   module _ (items : Items) (found : List ℕ × Nlist) (x : Option SymbolAt) (all : IsFound items x) where
     value_passed : (y : SymbolAt) → x ≡ Some y → is_below n a found.1 ≡ true → nat_le y.distance (a - found.1.n_value) ≡ true
@@ -125,7 +125,7 @@ module _ (n a : ℕ) where
         omega (arith, nearest.distance, below_address found.1 below, leb-false y.distance (a - found.1.n_value) far)
 
   module _ (items : Items) (found : List ℕ × Nlist) where
-    abbrev seen : PointerSymbol
+    abbrev seen : SymbolBelow
     seen = record { name = found.0; distance = a - found.1.n_value }
 
     first_of : (b : Bool) → is_below n a found.1 ≡ b
@@ -138,21 +138,21 @@ module _ (n a : ℕ) where
       Some (moved y),
       passed_by items (Ok found) (Some y) all.0 (λ name s e b.
           let more = value_passed items found (Some y) all y refl below near in omega (arith, more, same_value items found name s e)),
-      first_of true below ∙ ap (λ (o : Option PointerSymbol). nearer_of (Some seen) o) all.1
-          ∙ ap (λ (t : Bool). cond t (Some (pointer_symbol_of y)) (Some seen)) near,
+      first_of true below ∙ ap (λ (o : Option SymbolBelow). nearer_of (Some seen) o) all.1
+          ∙ ap (λ (t : Bool). cond t (Some (symbol_below y)) (Some seen)) near,
     )
     by_distance false y below far all = (
       Some (here items found),
       here_nearest items found (Some y) all.0 (value_ahead items found (Some y) all y refl below far) below,
-      first_of true below ∙ ap (λ (o : Option PointerSymbol). nearer_of (Some seen) o) all.1
-          ∙ ap (λ (t : Bool). cond t (Some (pointer_symbol_of y)) (Some seen)) far,
+      first_of true below ∙ ap (λ (o : Option SymbolBelow). nearer_of (Some seen) o) all.1
+          ∙ ap (λ (t : Bool). cond t (Some (symbol_below y)) (Some seen)) far,
     )
 
     by_symbol : (x : Option SymbolAt) → is_below n a found.1 ≡ true → IsFound items x → Found (Ok found ∷ items)
     by_symbol None below all = (
       Some (here items found),
       here_nearest items found None all.0 tt below,
-      first_of true below ∙ ap (λ (o : Option PointerSymbol). nearer_of (Some seen) o) all.1,
+      first_of true below ∙ ap (λ (o : Option SymbolBelow). nearer_of (Some seen) o) all.1,
     )
     by_symbol (Some x) below all = by_distance (nat_le x.distance (a - found.1.n_value)) x below refl all
 
@@ -163,7 +163,7 @@ module _ (n a : ℕ) where
       passed_by items (Ok found) x all.0 (λ name s e below.
           let same : ◌≡◌ {A = List ℕ × Nlist} found (name, s) = cc (e) in
           let test = ap (λ (p : List ℕ × Nlist). is_below n a p.1) same in absurd (cc (test, below, other))),
-      first_of false other ∙ ap (λ (o : Option PointerSymbol). nearer_of None o) all.1 ∙ nearer_same x,
+      first_of false other ∙ ap (λ (o : Option SymbolBelow). nearer_of None o) all.1 ∙ nearer_same x,
     )
 
   one_found : (items : Items) → Found items
@@ -172,7 +172,7 @@ module _ (n a : ℕ) where
       let all = one_found items in (
         option_map moved all.0,
         passed_by items (Err f) all.0 all.1 (λ name s e below. absurd (cc (e))),
-        ap (λ (o : Option PointerSymbol). nearer_of None o) all.2 ∙ nearer_same all.0,
+        ap (λ (o : Option SymbolBelow). nearer_of None o) all.2 ∙ nearer_same all.0,
       )
   one_found (Ok found ∷ items) = let all = one_found items in by_test items found (is_below n a found.1) all.0 refl (all.1, all.2)
 
@@ -180,20 +180,20 @@ module _ (n a : ℕ) where
 
 module _ (ss : List SegmentView) (items : Items) where
   pub symbol_exists : (held : Option NumberedSection) (a : ℕ)
-      → (x : Option SymbolAt) × IsSymbolAt ss items held a x × (nearest_in_section ss items held a ≡ option_map pointer_symbol_of x)
+      → (x : Option SymbolAt) × IsSymbolAt ss items held a x × (nearest_in_section ss items held a ≡ option_map symbol_below x)
   symbol_exists None a = (None, refl, refl)
   symbol_exists (Some h) a = let all = one_found (section_number ss h) a items in (all.0, all.1, all.2)
 
-  abbrev seen_of : ℕ × List ℕ × Nlist × ℕ → PointerSymbol
+  abbrev seen_of : ℕ × List ℕ × Nlist × ℕ → SymbolBelow
   seen_of v = record { name = v.1; distance = v.3 }
 
-  as_found : (x : Option SymbolAt) → option_map pointer_symbol_of x ≡ option_map seen_of (option_map found_symbol_view x)
+  as_found : (x : Option SymbolAt) → option_map symbol_below x ≡ option_map seen_of (option_map found_symbol_view x)
   as_found None = refl
   as_found (Some x) = refl
 
   -- it is determined
   pub symbol_is : (held : Option NumberedSection) (a : ℕ) (x : Option SymbolAt) → IsSymbolAt ss items held a x
-      → option_map pointer_symbol_of x ≡ nearest_in_section ss items held a
+      → option_map symbol_below x ≡ nearest_in_section ss items held a
   symbol_is held a x is =
       let other = symbol_exists held a in
       as_found x
