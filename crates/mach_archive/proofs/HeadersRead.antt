@@ -31,11 +31,26 @@ bounded_room {A} n bytes s found y e =
     if_room : Result A Fault
     if_room = cond (nat_le (s + n) (length bytes)) (Ok found) (Err (too_big n (length bytes - s)))
 
+-- the value of a bounded read that succeeds
+bounded_found : {A : Type 0} (n : ℕ) (bytes : List ℕ) (s : ℕ) (found y : A) → bounded n bytes s found ≡ Ok y → found ≡ y
+bounded_found {A} n bytes s found y e =
+    elim (chosen {A = A} (nat_le (length bytes) s) (Err (bad_offset s)) (if_room) (Ok y) e) [
+      | inl out ↦ absurd (let wrong = out.1 in cc)
+      | inr inside ↦ elim (chosen {A = A} (nat_le (s + n) (length bytes)) (Ok found) (Err (too_big n (length bytes - s))) (Ok y) inside.1) [
+        | inl room ↦ same_ok room.1
+        | inr short ↦ absurd (let wrong = short.1 in cc)
+      ]
+    ]
+  where
+    if_room : Result A Fault
+    if_room = cond (nat_le (s + n) (length bytes)) (Ok found) (Err (too_big n (length bytes - s)))
+
 -- the header is at the place where it was read, its bytes follow it, and they include a long name
 pub record OccursAt (bytes : List ℕ) (h : ℕ) (x : MemberHeader) : Type 0 where
   pub place : x.place ≡ h
   pub room : h + 60 + x.size ≤ length bytes
   pub long : unwrap_or x.long 0 ≤ x.size
+  pub fields : x.fields ≡ take 60 (drop h bytes)
 
 room_is : (bytes : List ℕ) (h size room : ℕ) → h + 60 ≤ length bytes → room_following bytes h size ≡ Ok room → h + 60 + size ≤ length bytes
 room_is bytes h size room start e = elim (chosen (size == 0) (Ok 0) (room_at size bytes (h + 60)) (Ok room) e) [
@@ -59,24 +74,24 @@ long_is fields size long e = elim (chosen (has_long_name fields) (named_len fiel
   | inr not_there ↦ let same : None ≡ long = same_ok not_there.1 in subst (λ (l : Option ℕ). unwrap_or l 0 ≤ size) same (omega arith)
 ]
 
-by_size : (bytes : List ℕ) (h : ℕ) (fields : List ℕ) (size : ℕ) (x : MemberHeader) → h + 60 ≤ length bytes → header_by_size bytes h fields size ≡ Ok x
-    → OccursAt bytes h x
-by_size bytes h fields size x start e =
+by_size : (bytes : List ℕ) (h : ℕ) (fields : List ℕ) (size : ℕ) (x : MemberHeader) → h + 60 ≤ length bytes → fields ≡ take 60 (drop h bytes)
+    → header_by_size bytes h fields size ≡ Ok x → OccursAt bytes h x
+by_size bytes h fields size x start are e =
     let room = bind_ok (room_following bytes h size) (λ (n : ℕ). long_name_len fields size >>= header_with h fields size) x e in
     let long = bind_ok (long_name_len fields size) (header_with h fields size) x room.2 in
     let whole : MemberHeader = record { place = h; fields = fields; size = size; long = long.0 } in
     let same : whole ≡ x = same_ok long.2 in
     subst (λ (y : MemberHeader). OccursAt bytes h y) same
-    (record { place = refl; room = room_is bytes h size room.0 start room.1; long = long_is fields size long.0 long.1 })
+    (record { place = refl; room = room_is bytes h size room.0 start room.1; long = long_is fields size long.0 long.1; fields = are })
 
-by_fields : (bytes : List ℕ) (h : ℕ) (fields : List ℕ) (x : MemberHeader) → h + 60 ≤ length bytes → header_by_fields bytes h fields ≡ Ok x
-    → OccursAt bytes h x
-by_fields bytes h fields x start e =
+by_fields : (bytes : List ℕ) (h : ℕ) (fields : List ℕ) (x : MemberHeader) → h + 60 ≤ length bytes → fields ≡ take 60 (drop h bytes)
+    → header_by_fields bytes h fields ≡ Ok x → OccursAt bytes h x
+by_fields bytes h fields x start are e =
     elim (chosen (bytes_eq (end_field fields) (0x60 ∷ 0x0a ∷ [])) (found_or_malformed (field_number 10 (size_field fields)) >>= header_by_size bytes h fields)
     (Err malformed) (Ok x) e) [
       | inl ended ↦
           let size = bind_ok (found_or_malformed (field_number 10 (size_field fields))) (header_by_size bytes h fields) x ended.1 in
-          by_size bytes h fields size.0 x start size.2
+          by_size bytes h fields size.0 x start are size.2
       | inr other ↦ absurd (let wrong = other.1 in cc)
     ]
 
@@ -84,25 +99,12 @@ pub header_occurs : (bytes : List ℕ) (h : ℕ) (x : MemberHeader) → member_h
 unfolding member_header_at
 header_occurs bytes h x e =
     let fields = bind_ok (slice_at 60 bytes h) (header_by_fields bytes h) x e in
-    by_fields bytes h fields.0 x (bounded_room 60 bytes h (take 60 (drop h bytes)) fields.0 fields.1) fields.2
+    by_fields bytes h fields.0 x (bounded_room 60 bytes h (take 60 (drop h bytes)) fields.0 fields.1)
+    (sym (bounded_found 60 bytes h (take 60 (drop h bytes)) fields.0 fields.1)) fields.2
 
 -- the next header lies after this one
 pub further : (bytes : List ℕ) (from : ℕ) (h : MemberHeader) → member_header_at bytes from ≡ Ok h → from + 60 ≤ next_header h
 further bytes from h e = let there = header_occurs bytes from h e in omega (arith, there.place)
-
--- the value of a bounded read that succeeds
-bounded_found : {A : Type 0} (n : ℕ) (bytes : List ℕ) (s : ℕ) (found y : A) → bounded n bytes s found ≡ Ok y → found ≡ y
-bounded_found {A} n bytes s found y e =
-    elim (chosen {A = A} (nat_le (length bytes) s) (Err (bad_offset s)) (if_room) (Ok y) e) [
-      | inl out ↦ absurd (let wrong = out.1 in cc)
-      | inr inside ↦ elim (chosen {A = A} (nat_le (s + n) (length bytes)) (Ok found) (Err (too_big n (length bytes - s))) (Ok y) inside.1) [
-        | inl room ↦ same_ok room.1
-        | inr short ↦ absurd (let wrong = short.1 in cc)
-      ]
-    ]
-  where
-    if_room : Result A Fault
-    if_room = cond (nat_le (s + n) (length bytes)) (Ok found) (Err (too_big n (length bytes - s)))
 
 -- the slice has the requested length
 pub slice_len : (n : ℕ) (bytes : List ℕ) (s : ℕ) (found : List ℕ) → slice_at n bytes s ≡ Ok found → length found ≡ n

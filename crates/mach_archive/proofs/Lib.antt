@@ -4,4 +4,5 @@ pub mod MembersRead
 pub mod MemberLaws
 pub mod SymbolsRead
 pub mod SymbolLaws
+pub mod TextsThere
 pub mod ArchiveLaws

@@ -68,14 +68,15 @@ number_after : (le : Endian) (w n k j : ℕ) (records : List ℕ) → n + w * k 
 number_after le w n k j records same =
     ap (λ (rest : List ℕ). number le w rest) (drop-drop (w * k) n records ∙ ap (λ (m : ℕ). drop m records) same)
 
-abbrev symbol_of : List ℕ → ℕ → IndexSymbol
-symbol_of name member = record { name = name; member = member }
+abbrev symbol_of : List ℕ → (place member : ℕ) → IndexSymbol
+symbol_of name place member = record { name = name; place = place; member = member }
 
--- symbols with the same text and the same member
-made_same : {a b : Result (List ℕ) Fault} {m n : ℕ} → a ≡ b → m ≡ n
-    → (a >>= (λ name. Ok (symbol_of name m))) ≡ (b >>= (λ name. Ok (symbol_of name n)))
-made_same {a} {b} {m} {n} text member =
-    ap (λ (r : Result (List ℕ) Fault). r >>= (λ name. Ok (symbol_of name m))) text ∙ ap (λ (x : ℕ). b >>= (λ name. Ok (symbol_of name x))) member
+-- symbols with the same text at the same place, and the same member
+made_same : {a b : Result (List ℕ) Fault} {p q m n : ℕ} → a ≡ b → p ≡ q → m ≡ n
+    → (a >>= (λ name. Ok (symbol_of name p m))) ≡ (b >>= (λ name. Ok (symbol_of name q n)))
+made_same {a} {b} {p} {q} {m} {n} text place member =
+    ap (λ (r : Result (List ℕ) Fault). r >>= (λ name. Ok (symbol_of name p m))) text
+    ∙ (ap (λ (x : ℕ). b >>= (λ name. Ok (symbol_of name x m))) place ∙ ap (λ (x : ℕ). b >>= (λ name. Ok (symbol_of name q x))) member)
 
 gnu_name_place-zero : (names : List ℕ) → gnu_name_place names 0 ≡ 0
 unfolding gnu_name_place
@@ -83,15 +84,15 @@ gnu_name_place-zero names = refl
 
 -- the text of the first symbol, and its symbol
 first_is : (kind : ArchiveKind) (t : IndexTable) (s : IndexSymbol) → index_symbol_by kind t 0 ≡ Ok s
-    → ended_text t.names (symbol_name_place kind t 0) ≡ Ok s.name
+    → ended_text t.names.text (symbol_name_place kind t 0) ≡ Ok s.name
 first_is kind t s e =
-    let text = bind_ok (ended_text t.names (symbol_name_place kind t 0)) made s e in
+    let text = bind_ok (ended_text t.names.text (symbol_name_place kind t 0)) made s e in
     let same : made text.0 ≡ Ok s = text.2 in
     let name : text.0 ≡ s.name = ap (λ (x : IndexSymbol). x.name) (same_ok same) in
     text.1 ∙ ap Ok name
   where
     made : List ℕ → Result IndexSymbol Fault
-    made name = Ok (record { name = name; member = symbol_member kind t 0 })
+    made name = Ok (record { name = name; place = t.names.place + symbol_name_place kind t 0; member = symbol_member kind t 0 })
 
 -- in the table after the first symbol the others have numbers that are one less
 symbol_after : (kind : ArchiveKind) (t : IndexTable) (s : IndexSymbol) (k : ℕ) → index_symbol_by kind t 0 ≡ Ok s
@@ -106,21 +107,21 @@ symbol_after : (kind : ArchiveKind) (t : IndexTable) (s : IndexSymbol) (k : ℕ)
     }) k
     ≡ index_symbol_by kind t (k + 1)
 symbol_after Gnu t s k e =
-    let first = ended_is t.names (gnu_name_place t.names 0) s.name (first_is Gnu t s e) in
-    let name : s.name ≡ run_at t.names 0 = first.0 ∙ ap (λ (p : ℕ). run_at t.names p) (gnu_name_place-zero t.names) in
+    let first = ended_is t.names.text (gnu_name_place t.names.text 0) s.name (first_is Gnu t s e) in
+    let name : s.name ≡ run_at t.names.text 0 = first.0 ∙ ap (λ (p : ℕ). run_at t.names.text p) (gnu_name_place-zero t.names.text) in
     let n = length s.name + 1 in
-    let inside : n ≤ length t.names = let low = first.1 in omega arith in
-    let place : n + gnu_name_place (drop n t.names) k ≡ gnu_name_place t.names (k + 1) =
-    ap (λ (r : List ℕ). length r + 1 + gnu_name_place (drop (length r + 1) t.names) k) name ∙ (place_following t.names k ∙ ap (gnu_name_place t.names)
-    (omega arith))
+    let inside : n ≤ length t.names.text = let low = first.1 in omega arith in
+    let place : n + gnu_name_place (drop n t.names.text) k ≡ gnu_name_place t.names.text (k + 1) =
+    ap (λ (r : List ℕ). length r + 1 + gnu_name_place (drop (length r + 1) t.names.text) k) name
+    ∙ (place_following t.names.text k ∙ ap (gnu_name_place t.names.text) (omega arith))
     in
-    let text : ended_text (drop n t.names) (gnu_name_place (drop n t.names) k) ≡ ended_text t.names (gnu_name_place t.names (k + 1)) =
-    ended_after t.names n (gnu_name_place (drop n t.names) k) inside ∙ ap (ended_text t.names) place
+    let text : ended_text (drop n t.names.text) (gnu_name_place (drop n t.names.text) k) ≡ ended_text t.names.text (gnu_name_place t.names.text (k + 1)) =
+    ended_after t.names.text n (gnu_name_place (drop n t.names.text) k) inside ∙ ap (ended_text t.names.text) place
     in
     let member : number t.le t.width (drop (t.width * k) (drop t.width t.records)) ≡ number t.le t.width (drop (t.width * (k + 1)) t.records) =
     number_after t.le t.width t.width k (k + 1) t.records (omega arith)
     in
-    made_same text member
+    made_same text (omega (arith, place)) member
 symbol_after Bsd t s k e =
     let w = t.width in
     let place : number t.le w (drop (w * (2 * k)) (drop (2 * w) t.records)) ≡ number t.le w (drop (w * (2 * (k + 1))) t.records) =
@@ -129,7 +130,7 @@ symbol_after Bsd t s k e =
     let member : number t.le w (drop (w * (2 * k + 1)) (drop (2 * w) t.records)) ≡ number t.le w (drop (w * (2 * (k + 1) + 1)) t.records) =
     number_after t.le w (2 * w) (2 * k + 1) (2 * (k + 1) + 1) t.records (omega arith)
     in
-    made_same (ap (ended_text t.names) place) member
+    made_same (ap (ended_text t.names.text) place) (ap (λ (n : ℕ). t.names.place + n) place) member
 
 left_after : (t : IndexTable) (s : IndexSymbol) (k : ℕ) → index_symbol_at t 0 ≡ Ok s → index_symbol_at (after_symbol t s.name) k ≡ index_symbol_at t (k + 1)
 unfolding index_symbol_at

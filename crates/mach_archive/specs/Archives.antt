@@ -11,12 +11,13 @@ use Rattle.mach_archive.specs.declared.archive.ArchiveKind.{ArchiveKind}
 use Rattle.mach_archive.specs.declared.archive.ArchiveKind.TheVariants.{Gnu, Bsd}
 use Rattle.mach_archive.specs.Fields.{is_space, without_end, word_of}
 use Rattle.mach_archive.specs.MemberHeaders.{MemberHeader, member_header_at, name_field, next_header}
-use Rattle.mach_archive.specs.Members.{LongNames, MemberView, member_of, body_of, long_name_of}
+use Rattle.mach_archive.specs.Members.{LongNames, MemberView, member_of, placed_body, long_name_of}
+use Rattle.mach_archive.specs.Places.{PlacedText}
 
 -- an index: the width of its numbers in bytes, and its bytes
 pub record ArchiveIndexView : Type 0 where
   pub width : ℕ
-  pub table : List ℕ
+  pub table : PlacedText
 
 pub record ArchiveView : Type 0 where
   pub bytes : List ℕ
@@ -39,8 +40,8 @@ abbrev pub gnu_width : List ℕ → Option ℕ
 gnu_width word = if bytes_eq word (codes "/") then Some 4 else (if bytes_eq word (codes "/SYM64/") then Some 8 else None)
 
 -- the long name without the zeros at its end, or else the name field without its trailing spaces
-abbrev pub index_name_by : Option (List ℕ) → List ℕ → List ℕ
-index_name_by (Some long) field = without_end is_zero long
+abbrev pub index_name_by : Option PlacedText → List ℕ → List ℕ
+index_name_by (Some long) field = without_end is_zero long.text
 index_name_by None field = without_end is_space field
 
 abbrev pub index_name : List ℕ → MemberHeader → List ℕ
@@ -48,7 +49,7 @@ index_name bytes h = index_name_by (long_name_of bytes h) (name_field h.fields)
 
 -- the index, if the member is one: then its numbers have a width
 abbrev pub index_of : List ℕ → MemberHeader → Option ℕ → Option ArchiveIndexView
-index_of bytes h width = option_map (λ w. record { width = w; table = body_of bytes h }) width
+index_of bytes h width = option_map (λ w. record { width = w; table = placed_body bytes h }) width
 
 -- the place after the member if it is an index, or else its place
 abbrev pub after_index : MemberHeader → Option ℕ → ℕ
@@ -60,14 +61,18 @@ bsd_archive bytes h =
     let width = bsd_width (index_name bytes h) in
     record { bytes = bytes; index = index_of bytes h width; names = None; begin = after_index h width }
 
--- the names at a place, and the place after them; or an empty list, and the same place
-abbrev pub names_or_none : List ℕ → MemberHeader → List ℕ × ℕ
-names_or_none bytes h =
-    if bytes_eq (word_of (name_field h.fields)) (codes "//") then (body_of bytes h, next_header h) else ([], h.place)
+-- no list of names
+abbrev pub no_names : PlacedText
+no_names = record { place = 0; text = [] }
 
-abbrev pub names_at : List ℕ → ℕ → Result (List ℕ × ℕ) Fault
+-- the names at a place, and the place after them; or an empty list, and the same place
+abbrev pub names_or_none : List ℕ → MemberHeader → PlacedText × ℕ
+names_or_none bytes h =
+    if bytes_eq (word_of (name_field h.fields)) (codes "//") then (placed_body bytes h, next_header h) else (no_names, h.place)
+
+abbrev pub names_at : List ℕ → ℕ → Result (PlacedText × ℕ) Fault
 names_at bytes from =
-    if nat_le (length bytes) from then Ok ([], from) else member_header_at bytes from >>= (λ h. Ok (names_or_none bytes h))
+    if nat_le (length bytes) from then Ok (no_names, from) else member_header_at bytes from >>= (λ h. Ok (names_or_none bytes h))
 
 -- an archive in GNU's form, by its first header: the index, then the names, then the members
 abbrev pub gnu_archive : List ℕ → MemberHeader → Result ArchiveView Fault
@@ -82,7 +87,7 @@ archive_by bytes h =
 
 -- an archive without members
 abbrev pub empty_archive : List ℕ → ArchiveView
-empty_archive bytes = record { bytes = bytes; index = None; names = Some []; begin = 8 }
+empty_archive bytes = record { bytes = bytes; index = None; names = Some no_names; begin = 8 }
 
 -- the archive, after its magic
 abbrev pub archive_after_magic : List ℕ → Result ArchiveView Fault

@@ -11,10 +11,12 @@ use Rattle.mach_archive.specs.declared.archive.ArchiveKind.TheVariants.{Gnu, Bsd
 use Rattle.mach_archive.specs.Archives.{ArchiveView, archive_member_at}
 use Rattle.mach_archive.specs.IndexTables.{IndexTable}
 use Rattle.mach_archive.specs.Members.{MemberView, then_items}
+use Rattle.mach_archive.specs.Places.{PlacedText, rest_of_text}
 
--- a symbol: its name, and the place of a member's header
+-- a symbol: its name, the place of its name in the archive, and that of a member's header
 pub record IndexSymbol : Type 0 where
   pub name : List ℕ
+  pub place : ℕ
   pub member : ℕ
 
 -- the text from s on; a zero byte must end it
@@ -30,9 +32,9 @@ gnu_name_place names (suc k) = let s = gnu_name_place names k in s + length (run
 abbrev pub record_number : IndexTable → ℕ → ℕ
 record_number t k = number t.le t.width (drop (t.width * k) t.records)
 
--- the place of symbol k's name, and that of its member; in BSD's form a record holds both
+-- the place of symbol k's name among the names, and that of its member; in BSD's form a record holds both
 abbrev pub symbol_name_place : ArchiveKind → IndexTable → ℕ → ℕ
-symbol_name_place Gnu t k = gnu_name_place t.names k
+symbol_name_place Gnu t k = gnu_name_place t.names.text k
 symbol_name_place Bsd t k = record_number t (2 * k)
 
 abbrev pub symbol_member : ArchiveKind → IndexTable → ℕ → ℕ
@@ -42,7 +44,8 @@ symbol_member Bsd t k = record_number t (2 * k + 1)
 -- symbol k, or the fault of its name
 abbrev pub index_symbol_by : ArchiveKind → IndexTable → ℕ → Result IndexSymbol Fault
 index_symbol_by kind t k =
-    ended_text t.names (symbol_name_place kind t k) >>= (λ name. Ok (record { name = name; member = symbol_member kind t k }))
+    ended_text t.names.text (symbol_name_place kind t k)
+    >>= (λ name. Ok (record { name = name; place = t.names.place + symbol_name_place kind t k; member = symbol_member kind t k }))
 
 unfoldable pub index_symbol_at : IndexTable → ℕ → Result IndexSymbol Fault
 index_symbol_at t k = index_symbol_by t.kind t k
@@ -73,8 +76,8 @@ abbrev pub records_after : ArchiveKind → IndexTable → List ℕ
 records_after Gnu t = drop t.width t.records
 records_after Bsd t = drop (2 * t.width) t.records
 
-abbrev pub names_after : ArchiveKind → IndexTable → List ℕ → List ℕ
-names_after Gnu t name = drop (length name + 1) t.names
+abbrev pub names_after : ArchiveKind → IndexTable → List ℕ → PlacedText
+names_after Gnu t name = rest_of_text (length name + 1) t.names
 names_after Bsd t name = t.names
 
 abbrev pub after_symbol : IndexTable → List ℕ → IndexTable

@@ -1,4 +1,6 @@
 pub mod Fields
+pub mod Places
+pub mod PlacedViews
 pub mod MemberHeaders
 pub mod Members
 pub mod MemberNames

@@ -1,6 +1,6 @@
 -- Names of members: short ones, and long ones of both forms.
-use Rattle.std.specs.Prelude.{◌==◌, ◌||◌, ℕ, ◌+◌, ◌-◌, Bool, List, length, take, drop, Option, Some, None, Result, Ok, Err, nat_eq, nat_lt}
-use Rattle.std.specs.Prelude.{if◌then◌else◌, codes}
+use Rattle.std.specs.Prelude.{◌≡◌, ◌==◌, ◌||◌, ℕ, ◌+◌, ◌-◌, Bool, List, length, take, drop, Option, Some, None, Result, Ok, Err, nat_eq, nat_lt}
+use Rattle.std.specs.Prelude.{if◌then◌else◌, codes, unwrap_or}
 use Rattle.std.specs.List.{before_first, starts_with, ends_with}
 use Rattle.std.specs.Str.{bytes_eq, is_utf8}
 use Rattle.mach_base.specs.Answer.{◌>>=◌}
@@ -10,6 +10,7 @@ use Rattle.mach_base.specs.Text.{is_zero}
 use Rattle.mach_archive.specs.Fields.{is_space, without_end, word_of, numeral}
 use Rattle.mach_archive.specs.MemberHeaders.{name_field}
 use Rattle.mach_archive.specs.Members.{LongNames, MemberView}
+use Rattle.mach_archive.specs.Places.{PlacedText, IsTextAt}
 
 abbrev pub is_newline : ℕ → Bool
 is_newline b = b == 0x0a
@@ -39,15 +40,42 @@ gnu_name names field =
 -- a name field, decoded for the archive's form
 abbrev pub short_name : LongNames → List ℕ → Result (List ℕ) Fault
 short_name None field = Ok (word_of field)
-short_name (Some names) field = gnu_name names field
+short_name (Some names) field = gnu_name names.text field
 
 -- a long name without the zeros at its end, or else the short name
-abbrev pub name_by : Option (List ℕ) → LongNames → List ℕ → Result (List ℕ) Fault
-name_by (Some long) names field = Ok (without_end is_zero long)
+abbrev pub name_by : Option PlacedText → LongNames → List ℕ → Result (List ℕ) Fault
+name_by (Some long) names field = Ok (without_end is_zero long.text)
 name_by None names field = short_name names field
 
 abbrev pub member_name_bytes : MemberView → Result (List ℕ) Fault
 member_name_bytes m = name_by m.long m.names (name_field m.fields)
+
+-- the place of a name in GNU's form: in the list of names if the field refers to it, or else that of the header, with which the field begins
+abbrev pub gnu_place : (names header : ℕ) → List ℕ → ℕ
+gnu_place names header field =
+    let word = word_of field in
+    if bytes_eq word (codes "/") || bytes_eq word (codes "//") then header
+    else (if starts_with nat_eq field (codes "/") then names + unwrap_or (numeral 10 (drop 1 word)) 0 else header)
+
+abbrev pub short_name_place : LongNames → (header : ℕ) → List ℕ → ℕ
+short_name_place None header field = header
+short_name_place (Some names) header field = gnu_place names.place header field
+
+-- the place of a member's name in the archive: that of the long name, or else that of the short one
+abbrev pub name_place_by : Option PlacedText → LongNames → (header : ℕ) → List ℕ → ℕ
+name_place_by (Some long) names header field = long.place
+name_place_by None names header field = short_name_place names header field
+
+abbrev pub member_name_place : MemberView → ℕ
+member_name_place m = name_place_by m.long m.names m.offset (name_field m.fields)
+
+-- the place of its name, and how many bytes that has; or why it can't be read
+abbrev pub member_name_at : MemberView → Result (ℕ × ℕ) Fault
+member_name_at m = member_name_bytes m >>= (λ name. Ok (member_name_place m, length name))
+
+-- a member's name, if it can be read, is in the bytes at its place
+abbrev pub NameIsThere : List ℕ → MemberView → Type 0
+NameIsThere bytes m = (name : List ℕ) → member_name_bytes m ≡ Ok name → IsTextAt name bytes (member_name_place m)
 
 -- bytes, if they are UTF-8
 abbrev pub text_or_fault : List ℕ → Result (List ℕ) Fault

@@ -3,10 +3,11 @@ use Rattle.std.specs.Prelude.{◌≡◌, ℕ, zero, suc, ◌+◌, ◌-◌, ◌<�
 use Rattle.std.specs.Prelude.{Err, nat_le, if◌then◌else◌}
 use Rattle.mach_base.specs.Fault.{Fault}
 use Rattle.mach_archive.specs.MemberHeaders.{MemberHeader, member_header_at, next_header}
+use Rattle.mach_archive.specs.Places.{PlacedText}
 
--- the list of names in GNU's form, to which headers refer by a number; none in BSD's form
+-- the list of names in GNU's form, to which headers refer by a number, and its place; none in BSD's form
 abbrev pub LongNames : Type 0
-LongNames = Option (List ℕ)
+LongNames = Option PlacedText
 
 -- a member: the places of its header and of its bytes, these bytes, the
 -- header's bytes, its long name if it has one, and the archive's list of names
@@ -15,7 +16,7 @@ pub record MemberView : Type 0 where
   pub start : ℕ
   pub bytes : List ℕ
   pub fields : List ℕ
-  pub long : Option (List ℕ)
+  pub long : Option PlacedText
   pub names : LongNames
 
 -- the place of a member's bytes: after the header and the long name
@@ -25,8 +26,11 @@ body_place h = h.place + 60 + unwrap_or h.long 0
 abbrev pub body_of : List ℕ → MemberHeader → List ℕ
 body_of bytes h = take (h.size - unwrap_or h.long 0) (drop (body_place h) bytes)
 
-abbrev pub long_name_of : List ℕ → MemberHeader → Option (List ℕ)
-long_name_of bytes h = option_map (λ n. take n (drop (h.place + 60) bytes)) h.long
+abbrev pub placed_body : List ℕ → MemberHeader → PlacedText
+placed_body bytes h = record { place = body_place h; text = body_of bytes h }
+
+abbrev pub long_name_of : List ℕ → MemberHeader → Option PlacedText
+long_name_of bytes h = option_map (λ n. record { place = h.place + 60; text = take n (drop (h.place + 60) bytes) }) h.long
 
 -- the member of a header
 abbrev pub member_of : List ℕ → LongNames → MemberHeader → MemberView

@@ -7,15 +7,17 @@ ghost use Rattle.mach_archive.specs.TableViews.{index_view};
 ghost use Rattle.mach_archive.specs.Widths.{number_width};
 ghost use Rattle.mach_archive.specs.ArchiveViews.{header_view, names_view, member_view, archive_of, members_left, archive_symbols_left, table_left};
 ghost use Rattle.mach_archive.specs.Archives.{archive_in, archive_by, archive_after_magic, archive_by_magic, bsd_archive, bsd_width, gnu_archive};
-ghost use Rattle.mach_archive.specs.Archives.{gnu_width, index_name, index_of, after_index, names_at, archive_kind, archive_member_at};
+ghost use Rattle.mach_archive.specs.Archives.{gnu_width, index_name, index_of, after_index, names_at, no_names, archive_kind, archive_member_at};
 ghost use Rattle.mach_archive.specs.IndexSymbols.{IndexSymbol, AreIndexSymbols, found_by_name};
 ghost use Rattle.mach_archive.specs.IndexTables.{IndexTable, archive_table};
 ghost use Rattle.mach_archive.specs.Members.{AreMembers};
+ghost use Rattle.mach_archive.specs.PlacedViews.{placed_view};
 
 use crate::field::{trimmed, word};
 use crate::header::Header;
 use crate::member::Member;
 use crate::members::Members;
+use crate::placed::Placed;
 use crate::symbols::ArchiveSymbols;
 use crate::table::{Index, Width};
 use mach_base::{ByteCount, Endian, Error, Result, bytes_at};
@@ -42,7 +44,7 @@ pub struct Archive<'a> {
     pub(crate) bytes: &'a [u8],
     pub(crate) index: Option<Index<'a>>,
     // The list of long names in GNU's form; `None` in BSD's.
-    pub(crate) names: Option<&'a [u8]>,
+    pub(crate) names: Option<Placed<'a>>,
     // The place of the first member's header.
     pub(crate) begin: usize,
 }
@@ -66,7 +68,7 @@ impl<'a> Archive<'a> {
             return Ok(Archive {
                 bytes,
                 index: None,
-                names: Some(&[]),
+                names: Some(no_names()),
                 begin: 8,
             });
         }
@@ -185,7 +187,7 @@ fn index_name<'a>(bytes: &'a [u8], header: &Header<'a>) -> &'a [u8]
     ensures { result.now ≡ index_name bytes.now (header_view header.now) }
 {
     match header.long_name(bytes) {
-        Some(long) => trimmed(long, 0),
+        Some(long) => trimmed(long.bytes, 0),
         None => trimmed(header.name_field(), b' '),
     }
 }
@@ -242,17 +244,24 @@ fn after_index(header: &Header<'_>, width: Option<Width>) -> usize
     }
 }
 
+// Returns an empty list of names.
+fn no_names<'a>() -> Placed<'a>
+    ensures { placed_view result ≡ no_names }
+{
+    Placed { at: 0, bytes: &[] }
+}
+
 // Reads the list of names at a place, and returns it with the place after it. If none is there, returns an empty list and the same place.
-fn names_at(bytes: &[u8], from: usize) -> Result<(&[u8], usize)>
-    ensures { Reads (λ found. (found.0.now, found.1)) result (names_at bytes.now from) }
+fn names_at(bytes: &[u8], from: usize) -> Result<(Placed<'_>, usize)>
+    ensures { Reads (λ found. (placed_view found.0, found.1)) result (names_at bytes.now from) }
 {
     if from >= bytes.len() {
-        return Ok((&[], from));
+        return Ok((no_names(), from));
     }
     let header = Header::read(bytes, from)?;
     if word(header.name_field()) == b"//".as_slice() {
         Ok((header.body(bytes), header.next()))
     } else {
-        Ok((&[], header.place))
+        Ok((no_names(), header.place))
     }
 }

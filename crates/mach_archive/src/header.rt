@@ -11,9 +11,11 @@ ghost use Rattle.mach_archive.specs.Fields.{field_number};
 ghost use Rattle.mach_base.specs.Fault.{fault_of};
 ghost use Rattle.mach_archive.specs.MemberHeaders.{member_header_at, header_by_fields, header_by_size, room_following, next_header, long_name_len};
 ghost use Rattle.mach_archive.specs.MemberHeaders.{name_field, size_field, has_long_name};
-ghost use Rattle.mach_archive.specs.Members.{body_of, body_place, long_name_of};
+ghost use Rattle.mach_archive.specs.Members.{body_place, long_name_of, placed_body};
+ghost use Rattle.mach_archive.specs.PlacedViews.{placed_view};
 
 use crate::field::{number_in, number_of, word};
+use crate::placed::Placed;
 use mach_base::{Error, Result, bytes_at};
 
 /// The size of a header in bytes.
@@ -99,14 +101,17 @@ impl<'a> Header<'a> {
     }
 
     /// Returns the long name, if there is one.
-    pub(crate) fn long_name(&self, bytes: &'a [u8]) -> Option<&'a [u8]>
+    pub(crate) fn long_name(&self, bytes: &'a [u8]) -> Option<Placed<'a>>
         requires room { self.now.place + 60 + self.now.size ≤ length bytes.now }
         requires long { unwrap_or self.now.long 0 ≤ self.now.size }
-        ensures { option_map (λ name. name.now) result ≡ long_name_of bytes.now (header_view self.now) }
+        ensures { option_map placed_view result ≡ long_name_of bytes.now (header_view self.now) }
     {
         let start = self.place + SIZE;
         match self.long {
-            Some(len) => Some(&bytes[start..start + len]),
+            Some(len) => Some(Placed {
+                at: start,
+                bytes: &bytes[start..start + len],
+            }),
             None => None,
         }
     }
@@ -120,14 +125,17 @@ impl<'a> Header<'a> {
     }
 
     /// Returns the member's bytes.
-    pub(crate) fn body(&self, bytes: &'a [u8]) -> &'a [u8]
+    pub(crate) fn body(&self, bytes: &'a [u8]) -> Placed<'a>
         requires room { self.now.place + 60 + self.now.size ≤ length bytes.now }
         requires long { unwrap_or self.now.long 0 ≤ self.now.size }
-        ensures { result.now ≡ body_of bytes.now (header_view self.now) }
+        ensures { placed_view result ≡ placed_body bytes.now (header_view self.now) }
     {
         let start = self.start();
         let len = self.size - self.long.unwrap_or(0);
-        &bytes[start..start + len]
+        Placed {
+            at: start,
+            bytes: &bytes[start..start + len],
+        }
     }
 }
 

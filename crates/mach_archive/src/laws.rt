@@ -1,13 +1,15 @@
 //! Laws about the members and symbols of archives.
 
-ghost use Rattle.std.specs.Prelude.{◌≡◌, ◌+◌, ◌*◌, ◌<◌, ◌≤◌, ℕ, List, ◌∷◌, Result, Ok, length, map};
+ghost use Rattle.std.specs.Prelude.{◌≡◌, ◌+◌, ◌*◌, ◌<◌, ◌≤◌, ℕ, List, ◌∷◌, Result, Ok, Option, Some, length, map};
 ghost use Rattle.mach_base.specs.Among.{IsAmong};
 ghost use Rattle.mach_base.specs.Fault.{Fault};
 ghost use Rattle.mach_archive.specs.Archives.{ArchiveView, archive_in, archive_member_at};
 ghost use Rattle.mach_archive.specs.FoundSymbols.{FindsFirst};
 ghost use Rattle.mach_archive.specs.IndexSymbols.{IndexSymbol, AreIndexSymbols, first_named};
-ghost use Rattle.mach_archive.specs.IndexTables.{IndexTable};
+ghost use Rattle.mach_archive.specs.IndexTables.{IndexTable, archive_table};
+ghost use Rattle.mach_archive.specs.MemberNames.{NameIsThere};
 ghost use Rattle.mach_archive.specs.Members.{LongNames, MemberView, AreMembers, IsMembers};
+ghost use Rattle.mach_archive.specs.Places.{IsTextAt};
 
 /// From a place on there is only one list of members.
 #[tactic(auto, using(crate::proofs::MemberLaws::one_list))]
@@ -46,6 +48,16 @@ pub fn members_are_at_their_places()
     ensures begin { (bytes : List ℕ) (a : ArchiveView) → archive_in bytes ≡ Ok a → (a.bytes ≡ bytes) × (8 ≤ a.begin) }
     ensures found { (a : ArchiveView) (from : ℕ) (items : List (Result MemberView Fault)) (m : MemberView) → 8 ≤ from
         → AreMembers a.bytes a.names from items → IsAmong (Ok m) items → archive_member_at a m.offset ≡ Ok m }
+{}
+
+/// The names of members and symbols that can be read are in the archive's bytes, at their places.
+pub fn names_are_at_their_places()
+    ensures members { (bytes : List ℕ) (a : ArchiveView) (from : ℕ) (items : List (Result MemberView Fault)) (m : MemberView) → archive_in bytes ≡ Ok a
+        → AreMembers a.bytes a.names from items → IsAmong (Ok m) items → NameIsThere bytes m }
+    ensures member { (bytes : List ℕ) (a : ArchiveView) (place : ℕ) (m : MemberView) → archive_in bytes ≡ Ok a → archive_member_at a place ≡ Ok m
+        → NameIsThere bytes m }
+    ensures symbols { (bytes : List ℕ) (a : ArchiveView) (t : IndexTable) (items : List (Result IndexSymbol Fault)) (s : IndexSymbol)
+        → archive_in bytes ≡ Ok a → archive_table a ≡ Ok (Some t) → AreIndexSymbols t 0 items → IsAmong (Ok s) items → IsTextAt s.name bytes s.place }
 {}
 
 /// From a number on there is only one list of a table's symbols.

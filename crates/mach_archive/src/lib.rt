@@ -7,6 +7,7 @@ mod header;
 pub mod laws;
 mod member;
 mod members;
+mod placed;
 mod symbols;
 mod table;
 

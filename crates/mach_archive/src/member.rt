@@ -1,15 +1,16 @@
 //! A member of an archive, and its name.
 
-ghost use Rattle.std.specs.Prelude.{◌≡◌, ◌≤◌, ◌+◌, Option, option_map, unwrap_or, length};
+ghost use Rattle.std.specs.Prelude.{◌≡◌, ◌≤◌, ◌<◌, ◌+◌, ◌^◌, IfOk, unwrap_or, length};
 ghost use Rattle.mach_base.specs.Answer.{Reads};
-ghost use Rattle.mach_archive.specs.ArchiveViews.{header_view, member_view, names_view};
 ghost use Rattle.mach_archive.specs.Fields.{field_number};
 ghost use Rattle.mach_archive.specs.MemberHeaders.{name_field, date_field, uid_field, gid_field, mode_field};
-ghost use Rattle.mach_archive.specs.MemberNames.{gnu_name, line_at, before_slash, name_by, member_name, member_name_bytes};
+ghost use Rattle.mach_archive.specs.MemberNames.{gnu_name, gnu_place, line_at, before_slash, name_by, member_name};
+ghost use Rattle.mach_archive.specs.MemberNames.{member_name_at, member_name_bytes, member_name_place};
 ghost use Rattle.mach_archive.specs.Members.{member_of};
 
 use crate::field::{number_in, number_of, trimmed, up_to, word};
 use crate::header::{Header, SIZE};
+use crate::placed::Placed;
 use mach_base::{ByteCount, Error, Result, ScrollError};
 use std::fmt;
 
@@ -24,13 +25,16 @@ pub struct Member<'a> {
     pub bytes: &'a [u8],
     // The header, the long name if there is one, and the archive's list of names if that has GNU's form.
     fields: &'a [u8; SIZE],
-    long: Option<&'a [u8]>,
-    names: Option<&'a [u8]>,
+    long: Option<Placed<'a>>,
+    names: Option<Placed<'a>>,
+    ghost room: { offset + 60 < 2 ^ 64 },
 }
 
 impl<'a> Member<'a> {
+    ghost use Rattle.mach_archive.specs.ArchiveViews.{header_view, member_view, names_view};
+
     /// Builds the member of a header that was read from these bytes.
-    pub(crate) fn of(bytes: &'a [u8], names: Option<&'a [u8]>, header: &Header<'a>) -> Member<'a>
+    pub(crate) fn of(bytes: &'a [u8], names: Option<Placed<'a>>, header: &Header<'a>) -> Member<'a>
         requires room { header.now.place + 60 + header.now.size ≤ length bytes.now }
         requires long { unwrap_or header.now.long 0 ≤ header.now.size }
         ensures { member_view result ≡ member_of bytes.now (names_view names.entry) (header_view header.now) }
@@ -38,7 +42,7 @@ impl<'a> Member<'a> {
         Member {
             offset: header.place,
             start: header.start(),
-            bytes: header.body(bytes),
+            bytes: header.body(bytes).bytes,
             fields: header.fields,
             long: header.long_name(bytes),
             names,
@@ -50,11 +54,30 @@ impl<'a> Member<'a> {
     pub fn name_bytes(&self) -> Result<&'a [u8]>
         ensures { Reads (λ name. name.now) result (member_name_bytes (member_view self.now)) }
     {
+        Ok(self.placed_name()?.bytes)
+    }
+
+    /// Returns where its name is in the archive: the place of the name, and how many bytes that has. Fails like `name_bytes`.
+    pub fn name_at(&self) -> Result<(usize, usize)>
+        ensures { Reads (λ at. at) result (member_name_at (member_view self.now)) }
+    {
+        let name = self.placed_name()?;
+        Ok((name.at, name.bytes.len()))
+    }
+
+    // Returns its name with the place of this.
+    fn placed_name(&self) -> Result<Placed<'a>>
+        ensures name { Reads (λ name. name.bytes.now) result (member_name_bytes (member_view self.now)) }
+        ensures place { IfOk result (λ name. name.at ≡ member_name_place (member_view self.now)) }
+    {
         let fields = self.fields;
-        let field = &fields[..16];
+        let field = Placed {
+            at: self.offset,
+            bytes: &fields[..16],
+        };
         match (self.long, self.names) {
-            (Some(long), _) => Ok(trimmed(long, 0)),
-            (None, None) => Ok(word(field)),
+            (Some(long), _) => Ok(long.cut(trimmed(long.bytes, 0))),
+            (None, None) => Ok(field.cut(word(field.bytes))),
             (None, Some(names)) => gnu_name(names, field),
         }
     }
@@ -118,16 +141,17 @@ impl fmt::Debug for Member<'_> {
 }
 
 // Decodes a name field in GNU's form, of at most 16 bytes.
-fn gnu_name<'a>(names: &'a [u8], field: &'a [u8]) -> Result<&'a [u8]>
-    requires { length field.now ≤ 16 }
-    ensures { Reads (λ name. name.now) result (gnu_name names.now field.now) }
+fn gnu_name<'a>(names: Placed<'a>, field: Placed<'a>) -> Result<Placed<'a>>
+    requires { length field.bytes.now ≤ 16 }
+    ensures name { Reads (λ name. name.bytes.now) result (gnu_name names.entry.bytes.now field.entry.bytes.now) }
+    ensures place { IfOk result (λ name. name.at ≡ gnu_place names.entry.at field.entry.at field.entry.bytes.now) }
 {
-    let word = word(field);
+    let word = word(field.bytes);
     if word == b"/".as_slice() || word == b"//".as_slice() {
-        return Ok(word);
+        return Ok(field.cut(word));
     }
-    if !field.starts_with(b"/") {
-        return Ok(trimmed(up_to(field, b'/'), b' '));
+    if !field.bytes.starts_with(b"/") {
+        return Ok(field.cut(trimmed(up_to(field.bytes, b'/'), b' ')));
     }
     let Some(place) = number_of(digits_of(word), 10) else {
         return Err(Error::Malformed("the place of a long name is not a number"));
@@ -147,25 +171,27 @@ fn digits_of(word: &[u8]) -> &[u8]
 }
 
 // Returns the line at a place of the list of names.
-fn line_at(names: &[u8], place: usize) -> Result<&[u8]>
-    ensures { Reads (λ line. line.now) result (line_at names.now place) }
+fn line_at<'a>(names: Placed<'a>, place: usize) -> Result<Placed<'a>>
+    ensures line { Reads (λ line. line.bytes.now) result (line_at names.entry.bytes.now place) }
+    ensures place { IfOk result (λ line. line.at ≡ names.entry.at + place) }
 {
-    if place < names.len() {
-        let rest = &names[place..];
-        let line = up_to(rest, b'\n');
-        if line.len() < rest.len() {
-            return Ok(line);
+    if place < names.bytes.len() {
+        let rest = names.after(place);
+        let line = up_to(rest.bytes, b'\n');
+        if line.len() < rest.bytes.len() {
+            return Ok(rest.cut(line));
         }
     }
     Err(Error::Malformed("a long name has no whole line in the list of names"))
 }
 
 // Returns a line without the slash that must end it.
-fn before_slash(line: &[u8]) -> Result<&[u8]>
-    ensures { Reads (λ name. name.now) result (before_slash line.now) }
+fn before_slash<'a>(line: Placed<'a>) -> Result<Placed<'a>>
+    ensures name { Reads (λ name. name.bytes.now) result (before_slash line.entry.bytes.now) }
+    ensures place { IfOk result (λ name. name.at ≡ line.entry.at) }
 {
-    match line.strip_suffix(b"/") {
-        Some(name) => Ok(name),
+    match line.bytes.strip_suffix(b"/") {
+        Some(name) => Ok(line.cut(name)),
         None => Err(Error::Malformed("a long name does not end with a slash")),
     }
 }

@@ -6,6 +6,7 @@ ghost use Rattle.mach_archive.specs.Members.{AreMembers};
 
 use crate::header::Header;
 use crate::member::Member;
+use crate::placed::Placed;
 use mach_base::{ByteCount, Result};
 use std::fmt;
 
@@ -13,14 +14,14 @@ use std::fmt;
 #[derive(Clone, Copy)]
 pub struct Members<'a> {
     bytes: &'a [u8],
-    names: Option<&'a [u8]>,
+    names: Option<Placed<'a>>,
     // The place of the next header. If there is none, it is at or past the end of the bytes.
     place: usize,
 }
 
 impl<'a> Members<'a> {
     /// Builds an iterator over the members from a place on.
-    pub(crate) fn new(bytes: &'a [u8], names: Option<&'a [u8]>, place: usize) -> Members<'a>
+    pub(crate) fn new(bytes: &'a [u8], names: Option<Placed<'a>>, place: usize) -> Members<'a>
         ensures { AreMembers bytes.now (names_view names.entry) place (members_left result) }
     {
         Members {

@@ -19,6 +19,8 @@ use std::fmt;
 pub struct ArchiveSymbol<'a> {
     /// The symbol's name.
     pub name: &'a [u8],
+    /// The place of its name in the archive.
+    pub name_at: usize,
     /// The place of the member's header. Whether there is one is not tested.
     pub member: u64,
 }
@@ -53,11 +55,13 @@ fn ended_text(names: &[u8], place: usize) -> Result<&[u8]>
 fn first<'a>(table: &Table<'a>) -> Result<ArchiveSymbol<'a>>
     requires { 0 < table.now.count }
     ensures symbol { archive_symbol_read result ≡ index_symbol_at (index_table_view table.now) 0 }
-    ensures within { IfOk result (λ s. table.now.kind ≡ Gnu → length s.name.now < length table.now.names.now) }
+    ensures within { IfOk result (λ s. table.now.kind ≡ Gnu → length s.name.now < length table.now.names.bytes.now) }
 {
-    let name = ended_text(table.names, table.name_place())?;
+    let place = table.name_place();
+    let name = ended_text(table.names.bytes, place)?;
     Ok(ArchiveSymbol {
         name,
+        name_at: table.names.at + place,
         member: table.member(),
     })
 }
@@ -66,12 +70,12 @@ fn first<'a>(table: &Table<'a>) -> Result<ArchiveSymbol<'a>>
 #[inline(always)]
 fn following<'a>(table: &Table<'a>, name: &[u8]) -> Table<'a>
     requires some { 0 < table.now.count }
-    requires within { table.now.kind ≡ Gnu → length name.now < length table.now.names.now }
+    requires within { table.now.kind ≡ Gnu → length name.now < length table.now.names.bytes.now }
     ensures { index_table_view result ≡ after_symbol (index_table_view table.now) name.now }
 {
     let size = table.width.bytes();
     let (records, names) = match table.kind {
-        ArchiveKind::Gnu => (&table.records[size..], &table.names[name.len() + 1..]),
+        ArchiveKind::Gnu => (&table.records[size..], table.names.after(name.len() + 1)),
         ArchiveKind::Bsd => (&table.records[2 * size..], table.names),
     };
     Table {
@@ -146,7 +150,7 @@ impl fmt::Debug for ArchiveSymbols<'_> {
         f.debug_struct("ArchiveSymbols")
             .field("kind", &self.table.kind)
             .field("left", &self.table.count)
-            .field("names", &ByteCount(self.table.names))
+            .field("names", &ByteCount(self.table.names.bytes))
             .finish()
     }
 }

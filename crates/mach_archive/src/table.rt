@@ -3,9 +3,11 @@
 ghost use Rattle.std.specs.Prelude.{◌≡◌, ◌≤◌, ◌<◌, ◌*◌, ◌+◌, ◌-◌, ◌^◌, length};
 ghost use Rattle.mach_base.specs.Answer.{Reads};
 ghost use Rattle.mach_base.specs.Number.{number, number_at};
+ghost use Rattle.mach_archive.specs.PlacedViews.{placed_view};
 ghost use Rattle.mach_archive.specs.Widths.{number_width, record_width};
 
 use crate::archive::ArchiveKind;
+use crate::placed::Placed;
 use mach_base::{Endian, Error, Result, ScrollError, bytes_at, read_u32};
 
 /// The width of an index's numbers.
@@ -31,7 +33,7 @@ impl Width {
 #[derive(Clone, Copy)]
 pub struct Index<'a> {
     pub(crate) width: Width,
-    pub(crate) table: &'a [u8],
+    pub(crate) table: Placed<'a>,
 }
 
 /// A table, or the remaining part of it.
@@ -44,8 +46,8 @@ pub struct Table<'a> {
     pub(crate) count: usize,
     /// The bytes from the first symbol's record on.
     pub(crate) records: &'a [u8],
-    /// The bytes of the names. In GNU's form they begin with the first symbol's name.
-    pub(crate) names: &'a [u8],
+    /// The names. In GNU's form they begin with the first symbol's name.
+    pub(crate) names: Placed<'a>,
     ghost room: { count * record_width kind width ≤ length records.now },
 }
 
@@ -137,12 +139,12 @@ impl<'a> Table<'a> {
     }
 
     // Reads GNU's form: a count, as many places of headers, and the names up to the end.
-    fn gnu(table: &'a [u8], width: Width) -> Result<Table<'a>>
-        ensures { Reads index_table_view result (gnu_table (number_width width) table.now) }
+    fn gnu(table: Placed<'a>, width: Width) -> Result<Table<'a>>
+        ensures { Reads index_table_view result (gnu_table (number_width width) (placed_view table.entry)) }
     {
         let size = width.bytes();
-        let count = first_number(table, width, Endian::Big)? as usize;
-        let room = (table.len() - size) / size;
+        let count = first_number(table.bytes, width, Endian::Big)? as usize;
+        let room = (table.bytes.len() - size) / size;
         if count > room {
             return Err(Error::BufferTooShort(count, "symbols"));
         }
@@ -151,14 +153,14 @@ impl<'a> Table<'a> {
             le: Endian::Big,
             width,
             count,
-            records: &table[size..],
-            names: &table[size + size * count..],
+            records: &table.bytes[size..],
+            names: table.after(size + size * count),
         })
     }
 
     // Reads BSD's form as little-endian, or else as big-endian. If both fail, returns the first error.
-    fn bsd(table: &'a [u8], width: Width) -> Result<Table<'a>>
-        ensures { Reads index_table_view result (bsd_table (number_width width) table.now) }
+    fn bsd(table: Placed<'a>, width: Width) -> Result<Table<'a>>
+        ensures { Reads index_table_view result (bsd_table (number_width width) (placed_view table.entry)) }
     {
         match Table::bsd_in(table, width, Endian::Little) {
             Ok(read) => Ok(read),
@@ -170,24 +172,24 @@ impl<'a> Table<'a> {
     }
 
     // Reads BSD's form in one byte order: the size of the records, the records, the size of the names, and the names.
-    fn bsd_in(table: &'a [u8], width: Width, le: Endian) -> Result<Table<'a>>
-        ensures { Reads index_table_view result (bsd_table_in le (number_width width) table.now) }
+    fn bsd_in(table: Placed<'a>, width: Width, le: Endian) -> Result<Table<'a>>
+        ensures { Reads index_table_view result (bsd_table_in le (number_width width) (placed_view table.entry)) }
     {
         let size = width.bytes();
-        let records = first_number(table, width, le)? as usize;
+        let records = first_number(table.bytes, width, le)? as usize;
         if records % (2 * size) != 0 {
             return Err(Error::Malformed("the index ends in a record"));
         }
         let count = records / (2 * size);
-        if table.len() < 2 * size || records > table.len() - 2 * size {
+        if table.bytes.len() < 2 * size || records > table.bytes.len() - 2 * size {
             return Err(Error::BufferTooShort(count, "symbols"));
         }
-        let len = number_in(table, size + records, width, le) as usize;
-        let names = &table[size + records + size..];
-        if len > names.len() {
+        let len = number_in(table.bytes, size + records, width, le) as usize;
+        let names = table.after(size + records + size);
+        if len > names.bytes.len() {
             return Err(Error::Scroll(ScrollError::TooBig {
                 size: len,
-                len: names.len(),
+                len: names.bytes.len(),
             }));
         }
         Ok(Table {
@@ -195,8 +197,8 @@ impl<'a> Table<'a> {
             le,
             width,
             count,
-            records: &table[size..],
-            names: &names[..len],
+            records: &table.bytes[size..],
+            names: names.cut(&names.bytes[..len]),
         })
     }
 }

@@ -1,11 +1,7 @@
 -- The places of texts in some bytes.
-use Rattle.std.specs.Prelude.{◌≡◌, ◌≤◌, ◌+◌, ℕ, List, length, take, drop, Result, Ok, Err}
+use Rattle.std.specs.Prelude.{◌≡◌, ℕ, List, length, Result, Ok, Err}
 use Rattle.mach_base.specs.Fault.{Fault, malformed}
-
--- the text is in the bytes at a place
-pub record IsTextAt (text bytes : List ℕ) (place : ℕ) : Type 0 where
-  pub within : place + length text ≤ length bytes
-  pub same : take (length text) (drop place bytes) ≡ text
+use Rattle.mach_archive.specs.Places.{IsTextAt}
 
 -- it is at no place
 abbrev pub IsNowhere : List ℕ → List ℕ → Type 0

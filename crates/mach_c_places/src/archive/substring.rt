@@ -2,7 +2,8 @@
 
 ghost use Rattle.std.specs.Prelude.{◌≡◌, ◌↔◌, ℕ, IsTrue, Ok, MatchOption};
 ghost use Rattle.mach_base.specs.Items.{read_as};
-ghost use Rattle.mach_c_places.specs.ArchivePlaces.{IsTextAt, IsNowhere, ReportsText};
+ghost use Rattle.mach_archive.specs.Places.{IsTextAt};
+ghost use Rattle.mach_c_places.specs.ArchivePlaces.{IsNowhere, ReportsText};
 
 use mach_base::{Error, Result};
 

@@ -8,6 +8,7 @@ use crate::generated::mach_archive::field::{trimmed, word};
 use crate::generated::mach_archive::header::Header;
 use crate::generated::mach_archive::member::Member;
 use crate::generated::mach_archive::members::Members;
+use crate::generated::mach_archive::placed::Placed;
 use crate::generated::mach_archive::symbols::ArchiveSymbols;
 use crate::generated::mach_archive::table::{Index, Width};
 use crate::generated::mach_base::{ByteCount, Endian, Error, Result, bytes_at};
@@ -34,7 +35,7 @@ pub struct Archive<'a> {
     pub(crate) bytes: &'a [u8],
     pub(crate) index: Option<Index<'a>>,
     // The list of long names in GNU's form; `None` in BSD's.
-    pub(crate) names: Option<&'a [u8]>,
+    pub(crate) names: Option<Placed<'a>>,
     // The place of the first member's header.
     pub(crate) begin: usize,
 }
@@ -63,7 +64,7 @@ impl<'a> Archive<'a> {
             return Ok(Archive {
                 bytes,
                 index: None,
-                names: Some(&[]),
+                names: Some(no_names()),
                 begin: 8,
             });
         }
@@ -190,7 +191,7 @@ impl fmt::Debug for Archive<'_> {
 // Returns the long name without the zeros at its end, or else the name field without its trailing spaces.
 fn index_name<'a>(bytes: &'a [u8], header: &Header<'a>) -> &'a [u8] {
     match header.long_name(bytes) {
-        Some(long) => trimmed(long, 0),
+        Some(long) => trimmed(long.bytes, 0),
         None => trimmed(header.name_field(), b' '),
     }
 }
@@ -236,15 +237,20 @@ fn after_index(header: &Header<'_>, width: Option<Width>) -> usize {
     }
 }
 
+// Returns an empty list of names.
+fn no_names<'a>() -> Placed<'a> {
+    Placed { at: 0, bytes: &[] }
+}
+
 // Reads the list of names at a place, and returns it with the place after it. If none is there, returns an empty list and the same place.
-fn names_at(bytes: &[u8], from: usize) -> Result<(&[u8], usize)> {
+fn names_at(bytes: &[u8], from: usize) -> Result<(Placed<'_>, usize)> {
     if from >= bytes.len() {
-        return Ok((&[], from));
+        return Ok((no_names(), from));
     }
     let header = Header::read(bytes, from)?;
     if word(header.name_field()) == b"//".as_slice() {
         Ok((header.body(bytes), header.next()))
     } else {
-        Ok((&[], header.place))
+        Ok((no_names(), header.place))
     }
 }

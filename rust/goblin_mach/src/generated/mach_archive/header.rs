@@ -3,6 +3,7 @@
 #![forbid(unsafe_code)]
 
 use crate::generated::mach_archive::field::{number_in, number_of, word};
+use crate::generated::mach_archive::placed::Placed;
 use crate::generated::mach_base::{Error, Result, bytes_at};
 
 /// The size of a header in bytes.
@@ -69,10 +70,13 @@ impl<'a> Header<'a> {
     }
 
     /// Returns the long name, if there is one.
-    pub(crate) fn long_name(&self, bytes: &'a [u8]) -> Option<&'a [u8]> {
+    pub(crate) fn long_name(&self, bytes: &'a [u8]) -> Option<Placed<'a>> {
         let start = self.place + SIZE;
         match self.long {
-            Some(len) => Some(&bytes[start..start + len]),
+            Some(len) => Some(Placed {
+                at: start,
+                bytes: &bytes[start..start + len],
+            }),
             None => None,
         }
     }
@@ -83,10 +87,13 @@ impl<'a> Header<'a> {
     }
 
     /// Returns the member's bytes.
-    pub(crate) fn body(&self, bytes: &'a [u8]) -> &'a [u8] {
+    pub(crate) fn body(&self, bytes: &'a [u8]) -> Placed<'a> {
         let start = self.start();
         let len = self.size - self.long.unwrap_or(0);
-        &bytes[start..start + len]
+        Placed {
+            at: start,
+            bytes: &bytes[start..start + len],
+        }
     }
 }
 

@@ -4,6 +4,7 @@
 
 use crate::generated::mach_archive::field::{number_in, number_of, trimmed, up_to, word};
 use crate::generated::mach_archive::header::{Header, SIZE};
+use crate::generated::mach_archive::placed::Placed;
 use crate::generated::mach_base::{ByteCount, Error, Result, ScrollError};
 use core::fmt;
 
@@ -11,24 +12,31 @@ use core::fmt;
 #[derive(Clone, Copy)]
 pub struct Member<'a> {
     /// The place of its header in the archive.
+    #[cfg(feature = "internals")]
     pub offset: usize,
+    #[cfg(not(feature = "internals"))]
+    pub(crate) offset: usize,
     /// The place of its bytes, after the header and a long name.
     pub start: usize,
     /// Its bytes, without a long name.
     pub bytes: &'a [u8],
     // The header, the long name if there is one, and the archive's list of names if that has GNU's form.
     fields: &'a [u8; SIZE],
-    long: Option<&'a [u8]>,
-    names: Option<&'a [u8]>,
+    long: Option<Placed<'a>>,
+    names: Option<Placed<'a>>,
 }
 
 impl<'a> Member<'a> {
     /// Builds the member of a header that was read from these bytes.
-    pub(crate) fn of(bytes: &'a [u8], names: Option<&'a [u8]>, header: &Header<'a>) -> Member<'a> {
+    pub(crate) fn of(
+        bytes: &'a [u8],
+        names: Option<Placed<'a>>,
+        header: &Header<'a>,
+    ) -> Member<'a> {
         Member {
             offset: header.place,
             start: header.start(),
-            bytes: header.body(bytes),
+            bytes: header.body(bytes).bytes,
             fields: header.fields,
             long: header.long_name(bytes),
             names,
@@ -44,11 +52,31 @@ impl<'a> Member<'a> {
     ///
     /// </details>
     pub fn name_bytes(&self) -> Result<&'a [u8]> {
+        Ok(self.placed_name()?.bytes)
+    }
+
+    /// Returns where its name is in the archive: the place of the name, and how many bytes that has. Fails like `name_bytes`.
+    ///
+    /// <details><summary>Proved</summary>
+    ///
+    /// - `Reads (λ at. at) result (member_name_at (member_view self))`
+    ///
+    /// </details>
+    pub fn name_at(&self) -> Result<(usize, usize)> {
+        let name = self.placed_name()?;
+        Ok((name.at, name.bytes.len()))
+    }
+
+    // Returns its name with the place of this.
+    fn placed_name(&self) -> Result<Placed<'a>> {
         let fields = self.fields;
-        let field = &fields[..16];
+        let field = Placed {
+            at: self.offset,
+            bytes: &fields[..16],
+        };
         match (self.long, self.names) {
-            (Some(long), _) => Ok(trimmed(long, 0)),
-            (None, None) => Ok(word(field)),
+            (Some(long), _) => Ok(long.cut(trimmed(long.bytes, 0))),
+            (None, None) => Ok(field.cut(word(field.bytes))),
             (None, Some(names)) => gnu_name(names, field),
         }
     }
@@ -132,13 +160,13 @@ impl fmt::Debug for Member<'_> {
 }
 
 // Decodes a name field in GNU's form, of at most 16 bytes.
-fn gnu_name<'a>(names: &'a [u8], field: &'a [u8]) -> Result<&'a [u8]> {
-    let word = word(field);
+fn gnu_name<'a>(names: Placed<'a>, field: Placed<'a>) -> Result<Placed<'a>> {
+    let word = word(field.bytes);
     if word == b"/".as_slice() || word == b"//".as_slice() {
-        return Ok(word);
+        return Ok(field.cut(word));
     }
-    if !field.starts_with(b"/") {
-        return Ok(trimmed(up_to(field, b'/'), b' '));
+    if !field.bytes.starts_with(b"/") {
+        return Ok(field.cut(trimmed(up_to(field.bytes, b'/'), b' ')));
     }
     let Some(place) = number_of(digits_of(word), 10) else {
         return Err(Error::Malformed("the place of a long name is not a number"));
@@ -155,12 +183,12 @@ fn digits_of(word: &[u8]) -> &[u8] {
 }
 
 // Returns the line at a place of the list of names.
-fn line_at(names: &[u8], place: usize) -> Result<&[u8]> {
-    if place < names.len() {
-        let rest = &names[place..];
-        let line = up_to(rest, b'\n');
-        if line.len() < rest.len() {
-            return Ok(line);
+fn line_at<'a>(names: Placed<'a>, place: usize) -> Result<Placed<'a>> {
+    if place < names.bytes.len() {
+        let rest = names.after(place);
+        let line = up_to(rest.bytes, b'\n');
+        if line.len() < rest.bytes.len() {
+            return Ok(rest.cut(line));
         }
     }
     Err(Error::Malformed(
@@ -169,9 +197,9 @@ fn line_at(names: &[u8], place: usize) -> Result<&[u8]> {
 }
 
 // Returns a line without the slash that must end it.
-fn before_slash(line: &[u8]) -> Result<&[u8]> {
-    match line.strip_suffix(b"/") {
-        Some(name) => Ok(name),
+fn before_slash<'a>(line: Placed<'a>) -> Result<Placed<'a>> {
+    match line.bytes.strip_suffix(b"/") {
+        Some(name) => Ok(line.cut(name)),
         None => Err(Error::Malformed("a long name does not end with a slash")),
     }
 }

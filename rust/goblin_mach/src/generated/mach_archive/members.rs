@@ -4,6 +4,7 @@
 
 use crate::generated::mach_archive::header::Header;
 use crate::generated::mach_archive::member::Member;
+use crate::generated::mach_archive::placed::Placed;
 use crate::generated::mach_base::{ByteCount, Result};
 use core::fmt;
 
@@ -11,14 +12,14 @@ use core::fmt;
 #[derive(Clone, Copy)]
 pub struct Members<'a> {
     bytes: &'a [u8],
-    names: Option<&'a [u8]>,
+    names: Option<Placed<'a>>,
     // The place of the next header. If there is none, it is at or past the end of the bytes.
     place: usize,
 }
 
 impl<'a> Members<'a> {
     /// Builds an iterator over the members from a place on.
-    pub(crate) fn new(bytes: &'a [u8], names: Option<&'a [u8]>, place: usize) -> Members<'a> {
+    pub(crate) fn new(bytes: &'a [u8], names: Option<Placed<'a>>, place: usize) -> Members<'a> {
         Members {
             bytes,
             names,

@@ -7,6 +7,7 @@ mod field;
 mod header;
 mod member;
 mod members;
+mod placed;
 mod symbols;
 mod table;
 

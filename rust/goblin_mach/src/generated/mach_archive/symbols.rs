@@ -14,6 +14,8 @@ use core::fmt;
 pub struct ArchiveSymbol<'a> {
     /// The symbol's name.
     pub name: &'a [u8],
+    /// The place of its name in the archive.
+    pub name_at: usize,
     /// The place of the member's header. Whether there is one is not tested.
     pub member: u64,
 }
@@ -42,9 +44,11 @@ fn ended_text(names: &[u8], place: usize) -> Result<&[u8]> {
 // Reads the first symbol of a table.
 #[inline(always)]
 fn first<'a>(table: &Table<'a>) -> Result<ArchiveSymbol<'a>> {
-    let name = ended_text(table.names, table.name_place())?;
+    let place = table.name_place();
+    let name = ended_text(table.names.bytes, place)?;
     Ok(ArchiveSymbol {
         name,
+        name_at: table.names.at + place,
         member: table.member(),
     })
 }
@@ -54,7 +58,7 @@ fn first<'a>(table: &Table<'a>) -> Result<ArchiveSymbol<'a>> {
 fn following<'a>(table: &Table<'a>, name: &[u8]) -> Table<'a> {
     let size = table.width.bytes();
     let (records, names) = match table.kind {
-        ArchiveKind::Gnu => (&table.records[size..], &table.names[name.len() + 1..]),
+        ArchiveKind::Gnu => (&table.records[size..], table.names.after(name.len() + 1)),
         ArchiveKind::Bsd => (&table.records[2 * size..], table.names),
     };
     Table {
@@ -120,7 +124,7 @@ impl fmt::Debug for ArchiveSymbols<'_> {
         f.debug_struct("ArchiveSymbols")
             .field("kind", &self.table.kind)
             .field("left", &self.table.count)
-            .field("names", &ByteCount(self.table.names))
+            .field("names", &ByteCount(self.table.names.bytes))
             .finish()
     }
 }

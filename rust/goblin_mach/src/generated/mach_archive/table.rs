@@ -5,6 +5,7 @@
 use crate::shim::ReadsNumbers;
 
 use crate::generated::mach_archive::archive::ArchiveKind;
+use crate::generated::mach_archive::placed::Placed;
 use crate::generated::mach_base::{Endian, Error, Result, ScrollError, bytes_at, read_u32};
 
 /// The width of an index's numbers.
@@ -36,7 +37,7 @@ impl Width {
 #[derive(Clone, Copy)]
 pub struct Index<'a> {
     pub(crate) width: Width,
-    pub(crate) table: &'a [u8],
+    pub(crate) table: Placed<'a>,
 }
 
 impl<'a> core::fmt::Debug for Index<'a> {
@@ -56,8 +57,8 @@ pub struct Table<'a> {
     pub(crate) count: usize,
     /// The bytes from the first symbol's record on.
     pub(crate) records: &'a [u8],
-    /// The bytes of the names. In GNU's form they begin with the first symbol's name.
-    pub(crate) names: &'a [u8],
+    /// The names. In GNU's form they begin with the first symbol's name.
+    pub(crate) names: Placed<'a>,
 }
 
 impl<'a> core::fmt::Debug for Table<'a> {
@@ -130,10 +131,10 @@ impl<'a> Table<'a> {
     }
 
     // Reads GNU's form: a count, as many places of headers, and the names up to the end.
-    fn gnu(table: &'a [u8], width: Width) -> Result<Table<'a>> {
+    fn gnu(table: Placed<'a>, width: Width) -> Result<Table<'a>> {
         let size = width.bytes();
-        let count = first_number(table, width, Endian::Big)? as usize;
-        let room = (table.len() - size) / size;
+        let count = first_number(table.bytes, width, Endian::Big)? as usize;
+        let room = (table.bytes.len() - size) / size;
         if count > room {
             return Err(Error::BufferTooShort(count, "symbols"));
         }
@@ -142,13 +143,13 @@ impl<'a> Table<'a> {
             le: Endian::Big,
             width,
             count,
-            records: &table[size..],
-            names: &table[size + size * count..],
+            records: &table.bytes[size..],
+            names: table.after(size + size * count),
         })
     }
 
     // Reads BSD's form as little-endian, or else as big-endian. If both fail, returns the first error.
-    fn bsd(table: &'a [u8], width: Width) -> Result<Table<'a>> {
+    fn bsd(table: Placed<'a>, width: Width) -> Result<Table<'a>> {
         match Table::bsd_in(table, width, Endian::Little) {
             Ok(read) => Ok(read),
             Err(fault) => match Table::bsd_in(table, width, Endian::Big) {
@@ -159,22 +160,22 @@ impl<'a> Table<'a> {
     }
 
     // Reads BSD's form in one byte order: the size of the records, the records, the size of the names, and the names.
-    fn bsd_in(table: &'a [u8], width: Width, le: Endian) -> Result<Table<'a>> {
+    fn bsd_in(table: Placed<'a>, width: Width, le: Endian) -> Result<Table<'a>> {
         let size = width.bytes();
-        let records = first_number(table, width, le)? as usize;
+        let records = first_number(table.bytes, width, le)? as usize;
         if records % (2 * size) != 0 {
             return Err(Error::Malformed("the index ends in a record"));
         }
         let count = records / (2 * size);
-        if table.len() < 2 * size || records > table.len() - 2 * size {
+        if table.bytes.len() < 2 * size || records > table.bytes.len() - 2 * size {
             return Err(Error::BufferTooShort(count, "symbols"));
         }
-        let len = number_in(table, size + records, width, le) as usize;
-        let names = &table[size + records + size..];
-        if len > names.len() {
+        let len = number_in(table.bytes, size + records, width, le) as usize;
+        let names = table.after(size + records + size);
+        if len > names.bytes.len() {
             return Err(Error::Scroll(ScrollError::TooBig {
                 size: len,
-                len: names.len(),
+                len: names.bytes.len(),
             }));
         }
         Ok(Table {
@@ -182,8 +183,8 @@ impl<'a> Table<'a> {
             le,
             width,
             count,
-            records: &table[size..],
-            names: &names[..len],
+            records: &table.bytes[size..],
+            names: names.cut(&names.bytes[..len]),
         })
     }
 }

@@ -1,5 +1,5 @@
 use Rattle.std.proofs.Common.{ℕ, ◌<◌}
-use Rattle.mach_c_places.specs.ArchivePlaces.{IsTextAt}
+use Rattle.mach_archive.specs.Places.{IsTextAt}
 use Rattle.mach_c_places.proofs.archive.substring.first_place.Given as goal
 
 abbrev pub invariant-loop-place : goal.invariant-loop-place
