@@ -126,10 +126,11 @@ abbrev pub IsNoAddress : List (Bor (List ℕ)) → Misuse → Type 0
 IsNoAddress [] misuse = (what : Bor (List ℕ)) × (what.now ≡ codes "ADDRESS after at") × (misuse ≡ Missing what)
 IsNoAddress (word ∷ files) misuse = (misuse ≡ NoAddress word) × (word_address word.now ≡ None)
 
--- This is wrong with the arguments after `bytes`: there are less than two, or a name is longer than 16 bytes.
+-- A name is longer than 16 bytes.
 abbrev pub IsLongName : Bor (List ℕ) → Misuse → Type 0
 IsLongName name misuse = (misuse ≡ NoName name) × (name_of_16 name.now ≡ None)
 
+-- This is wrong with the arguments after `bytes`: there are less than two, or a name is too long.
 abbrev pub IsNoSection : List (Bor (List ℕ)) → Misuse → Type 0
 IsNoSection (segment ∷ section ∷ files) misuse = IsLongName segment misuse ⊎ IsLongName section misuse
 IsNoSection _ misuse = (what : Bor (List ℕ)) × (what.now ≡ codes "SEGMENT SECTION after bytes") × (misuse ≡ Missing what)
