@@ -15,7 +15,7 @@ pub returns-in-None-clause-determined : goal.returns-in-None-clause-determined
 returns-in-None-clause-determined g c =
     let image = image_of_addresses c.args.self.now in
     let ss = segments_view image in
-    symbol_is ss (image_symbols image) (section_holding ss c.args.address) c.args.address _ (returns-in-None-clause-nearest c)
+    symbol_is ss (image_symbols image) (section_holding ss c.args.address) c.args.address _ (returns-in-None-clause-nearest g c)
 
 pub returns-in-Some-clause-nearest : goal.returns-in-Some-clause-nearest
 returns-in-Some-clause-nearest g c =
@@ -27,4 +27,4 @@ pub returns-in-Some-clause-determined : goal.returns-in-Some-clause-determined
 returns-in-Some-clause-determined g c =
     let image = image_of_addresses c.args.self.now in
     let ss = segments_view image in
-    symbol_is ss (image_symbols image) (section_holding ss c.args.address) c.args.address _ (returns-in-Some-clause-nearest c)
+    symbol_is ss (image_symbols image) (section_holding ss c.args.address) c.args.address _ (returns-in-Some-clause-nearest g c)
