@@ -16,7 +16,7 @@ returns-in-Ok g c =
     raw_in (ContentHasRaw c.args.cpu x.place.cpu c.args.name.now content) (ItemHasRaw c.args.cpu c.args.name.now x) c.held_in_content.result
     (λ there has. raw_of_content content there (ap (read_as content_view) c.in-Ok.is) has) c.held_in_content.ensures
 
-pub returns : goal.returns
-returns g c =
+pub returns-in-Err : goal.returns-in-Err
+returns-in-Err g c =
     ErrorMeets-reported (λ f. ItemHasRaw c.args.cpu c.args.name.now (input_item_read c.args.item) (Err f)) c.in-Err.error
     (raw_unread (fault_of c.in-Err.error) (ap (read_as content_view) c.in-Err.is))

@@ -10,8 +10,8 @@ pub returns-in-Ok : goal.returns-in-Ok
 returns-in-Ok g c =
     raw_of_opened c.in-Ok.image (content_view c.args.content) c.args.cpu c.args.entry c.args.name.now c.in-Ok.ensures.opened c.held_if.result c.held_if.ensures
 
-pub returns : goal.returns
-returns g c =
+pub returns-in-Err : goal.returns-in-Err
+returns-in-Err g c =
     let content = content_view c.args.content in
     ErrorMeets-in (ImageFault (content_bytes content) 0) (λ f. ContentHasRaw c.args.cpu c.args.entry c.args.name.now content (Err f)) c.in-Err.error
     raw_of_no_image c.in-Err.ensures.refused

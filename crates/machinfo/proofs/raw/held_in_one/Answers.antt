@@ -10,5 +10,5 @@ returns-in-Some g c =
     raw_in (ItemHasRaw c.args.cpu c.args.name.now x) (ItemsHaveRaw c.args.cpu c.args.name.now (parts_left c.args.items)) c.held_in.result
     (λ there has. raw_of_one x there c.in-Some.ensures.one has) c.held_in.ensures
 
-pub returns : goal.returns
-returns g c = raw_of_others c.in-None.ensures.other
+pub returns-in-None : goal.returns-in-None
+returns-in-None g c = raw_of_others c.in-None.ensures.other
