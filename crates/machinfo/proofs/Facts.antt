@@ -35,6 +35,7 @@ use Rattle.mach_parts.specs.Segment.{SegmentView}
 use Rattle.goblin_mach.specs.AllStretches.{SegmentStretches, parts_of}
 use Rattle.machinfo.specs.CommandRows.{CommandRowView, rows_of_commands}
 use Rattle.machinfo.specs.Imports.{HasImportFields, fields_of_imports}
+use Rattle.machinfo.specs.Initializers.{HasInitFields, init_fields, listed_or_fault, symbol_by_facts}
 use Rattle.machinfo.specs.NumberedCommands.{NumberedCommandView, numbered_command_fields, numbered_commands_from}
 use Rattle.machinfo.specs.NumberedNotes.{NumberedNoteView, numbered_notes_from}
 use Rattle.machinfo.specs.ProvidedSymbols.{ProvidedView, provided_in, symbols_past_in}
@@ -47,7 +48,7 @@ use Rattle.machinfo.specs.RowFields.{data_fields, fields_read, indirect_fields, 
 use Rattle.machinfo.specs.Relocations.{RelocationView, image_relocations, image_relocations_past, relocation_row_fields}
 use Rattle.machinfo.specs.RowFields.{provided_fields, rebase_row_fields, slot_fields, start_fields, tool_fields, weak_row_fields}
 use Rattle.machinfo.specs.SectionBytes.{byte_row_fields, bytes_held, listed_bytes}
-use Rattle.machinfo.specs.SectionContents.{StringRowView, image_strings, init_fields, listed_or_fault, string_fields}
+use Rattle.machinfo.specs.SectionContents.{StringRowView, image_strings, string_fields}
 use Rattle.machinfo.specs.SectionRows.{section_rows_in, sections_past}
 use Rattle.machinfo.specs.Verdicts.{explained_fields, finding_fields}
 use Rattle.mach_audit.specs.Security.{all_findings}
@@ -184,11 +185,6 @@ module _ {A : Type 0} (m : MachO A) (bytes : List ℕ) (o : ℕ) (p : IsLossyIma
   string_rows_are items is =
       (of_parts (λ f. fields_read string_fields items ≡ fields_read string_fields (image_strings f)) (ap (fields_read string_fields) is), refl)
 
-  pub init_rows_are : (items : List (Result Initializer Fault)) → (found : Result (List (Result Initializer Fault)) Fault)
-      × AreImageInitializers (ctx_view m) (bytes_view m) (chained_view m) (segments_view m) found × (items ≡ listed_or_fault found)
-      → HasRows words.Inits bytes o (fields_read init_fields items) 0
-  init_rows_are items has = ((items, (has.0, ((initializers_are m).lossy bytes o p has.0).1 has.1, has.2), refl), refl)
-
   pub byte_rows_are : (name : SectionName) (items : List (Result (ℕ × List ℕ) Fault)) → items ≡ listed_bytes (bytes_held name (facts_view m))
       → HasRows (words.Bytes name) bytes o (fields_read byte_row_fields items) 0
   byte_rows_are name items is = (
@@ -206,4 +202,14 @@ module _ {A : Type 0} (m : MachO A) (bytes : List ℕ) (o : ℕ) (p : IsLossyIma
     items = items;
     has_items = subst (λ (k : ℕ). HasBindings bytes k items) start (((bindings_are m).lossy bytes o p items).1 is);
     shown = ap (λ (known : List SegmentStretches). fields_of_imports known items) are;
+  }
+
+  pub init_fields_are : (items : List (Result Initializer Fault)) → (found : Result (List (Result Initializer Fault)) Fault)
+      × AreImageInitializers (ctx_view m) (bytes_view m) (chained_view m) (segments_view m) found × (items ≡ listed_or_fault found)
+      → (fields : List (Result (List FieldView) Fault)) → fields ≡ fields_read (init_fields (symbol_by_facts (facts_view m))) items
+      → HasInitFields bytes o fields
+  init_fields_are items has fields are = record {
+    items = items;
+    has_items = (has.0, ((initializers_are m).lossy bytes o p has.0).1 has.1, has.2);
+    shown = of_parts (λ f. fields ≡ fields_read (init_fields (symbol_by_facts f)) items) are;
   }

@@ -29,7 +29,6 @@ heading_of words.Security = codes "VERDICT                IS  MEANING"
 heading_of words.SecurityExplained = codes "VERDICT                IS  MEANING"
 heading_of words.Relocations = codes "SEGMENT      SECTION          ADDRESS  TYPE                    TARGET PCREL SIZE"
 heading_of words.Strings = codes "ADDRESS     SECTION          STRING"
-heading_of words.Inits = codes "ADDRESS     SECTION          TARGET"
 heading_of (words.Bytes name) = codes "ADDRESS     BYTES                            TEXT"
 
 -- the headings of exports, and of what dyld binds
@@ -38,6 +37,10 @@ exports_heading = codes "ADDRESS     KIND         WEAK NAME"
 
 abbrev pub imports_heading : List ℕ
 imports_heading = codes "ADDRESS     SEGMENT      SECTION          LIBRARY              SYMBOL"
+
+-- the heading of initializers
+abbrev pub inits_heading : List ℕ
+inits_heading = codes "ADDRESS     SECTION          TARGET      SYMBOL"
 
 -- the line of a heading, if there is one
 abbrev pub list_heading : (has_headings : Bool) → (heading : List ℕ) → List ℕ

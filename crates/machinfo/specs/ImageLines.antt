@@ -15,8 +15,9 @@ use Rattle.mach_signature.specs.SignedFacts.{HasCodeDirectory}
 use Rattle.machinfo.specs.Counts.{AreCounts, counted_words}
 use Rattle.machinfo.specs.ExportRows.{HasExportFields}
 use Rattle.machinfo.specs.FrontStatus.{IsFrontWhole}
-use Rattle.machinfo.specs.Headings.{AreUnderHeading, exports_heading, heading_of, imports_heading}
+use Rattle.machinfo.specs.Headings.{AreUnderHeading, exports_heading, heading_of, imports_heading, inits_heading}
 use Rattle.machinfo.specs.Imports.{HasImportFields}
+use Rattle.machinfo.specs.Initializers.{HasInitFields}
 use Rattle.machinfo.specs.Lists.{OfRows}
 use Rattle.machinfo.specs.PartLines.{AreLinesOfParts}
 use Rattle.machinfo.specs.RowFields.{lines_form}
@@ -127,6 +128,8 @@ AreInfoLines has_headings (Some choices.Exports) file limit =
     λ left bytes. AreUnderHeading has_headings exports_heading (AreListedLines (HasExportFields left bytes) limit left)
 AreInfoLines has_headings (Some choices.Imports) file limit =
     λ left bytes. AreUnderHeading has_headings imports_heading (AreListedLines (HasImportFields bytes) limit left)
+AreInfoLines has_headings (Some choices.Inits) file limit =
+    λ left bytes. AreUnderHeading has_headings inits_heading (AreListedLines (HasInitFields bytes 0) limit left)
 AreInfoLines has_headings (Some (choices.At address)) file limit = AreAddressLines None (address ∷ []) false false file limit
 AreInfoLines has_headings None file limit = AreImageSummaryLines limit
 
@@ -135,5 +138,6 @@ abbrev pub AreInfoMembers : Option Choice → (file : List ℕ) → (limit : ℕ
 AreInfoMembers (Some (choices.Word word)) file limit = AreImageListMembers word
 AreInfoMembers (Some choices.Exports) file limit = λ left bytes. AreListedMembers (codes "exports") (HasExportFields left bytes) left
 AreInfoMembers (Some choices.Imports) file limit = λ left bytes. AreListedMembers (codes "imports") (HasImportFields bytes) left
+AreInfoMembers (Some choices.Inits) file limit = λ left bytes. AreListedMembers (codes "inits") (HasInitFields bytes 0) left
 AreInfoMembers (Some (choices.At address)) file limit = AreAddressMembers None (address ∷ []) file limit
 AreInfoMembers None file limit = AreImageSummaryMembers limit

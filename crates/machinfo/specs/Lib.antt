@@ -33,6 +33,7 @@ pub mod ListLines
 pub mod Exports
 pub mod ExportRows
 pub mod Imports
+pub mod Initializers
 pub mod PartLines
 pub mod SegmentStatus
 pub mod FrontStatus

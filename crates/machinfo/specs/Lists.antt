@@ -23,7 +23,7 @@ use Rattle.machinfo.specs.RowFields.{data_fields, fields_read, indirect_fields, 
 use Rattle.machinfo.specs.Relocations.{image_relocations, image_relocations_past, relocation_row_fields}
 use Rattle.machinfo.specs.RowFields.{provided_fields, rebase_row_fields, slot_fields, start_fields, tool_fields, weak_row_fields}
 use Rattle.machinfo.specs.SectionBytes.{byte_row_fields, bytes_held, listed_bytes}
-use Rattle.machinfo.specs.SectionContents.{HasInitRows, image_strings, init_fields, string_fields}
+use Rattle.machinfo.specs.SectionContents.{image_strings, string_fields}
 use Rattle.machinfo.specs.SectionRows.{section_rows_in, sections_past}
 use Rattle.machinfo.specs.Verdicts.{explained_fields, finding_fields}
 use Rattle.machinfo.specs.declared.word.Word.{Word}
@@ -76,7 +76,6 @@ HasRows words.SecurityExplained bytes o rows past = AreFieldsOf explained_fields
 HasRows words.Relocations bytes o rows past =
     OfFacts bytes o (λ f. (rows ≡ fields_read relocation_row_fields (image_relocations f)) × (past ≡ image_relocations_past f))
 HasRows words.Strings bytes o rows past = OfFacts bytes o (λ f. rows ≡ fields_read string_fields (image_strings f)) × (past ≡ 0)
-HasRows words.Inits bytes o rows past = AreFieldsOf init_fields (HasInitRows bytes o) rows × (past ≡ 0)
 HasRows (words.Bytes name) bytes o rows past =
     OfFacts bytes o (λ f. rows ≡ fields_read byte_row_fields (listed_bytes (bytes_held name f))) × (past ≡ 0)
 

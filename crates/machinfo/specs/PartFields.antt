@@ -193,16 +193,18 @@ abbrev pub above_field : Option (List ℕ × ℕ) → FieldView
 above_field None = line_field (text []) 0
 above_field (Some s) = line_field (text (codes "+")) (column_if (not (s.1 == 0)) 5)
 
+-- the symbol at an address, and how far the address is above it
+abbrev pub nearest_symbol_fields : Option (List ℕ × ℕ) → List FieldView
+nearest_symbol_fields symbol =
+    field_of (codes "symbol") (optional_text (entry_symbol_name symbol)) 4 ∷ above_field symbol ∷ entry_distance_field symbol ∷ []
+
 -- the address, the first section that holds it, and the symbol with the distance
 abbrev pub entry_part_fields : EntryView → List FieldView
 entry_part_fields row =
     field_of (codes "address") (hex row.address) 1
     ∷ field_of (codes "segment") (optional_text (segment_of_found row.section)) 2
     ∷ field_of (codes "section") (optional_text (name_of_found row.section)) 3
-    ∷ field_of (codes "symbol") (optional_text (entry_symbol_name row.symbol)) 4
-    ∷ above_field row.symbol
-    ∷ entry_distance_field row.symbol
-    ∷ []
+    ∷ nearest_symbol_fields row.symbol
 
 -- ---- the header (struct mach_header_64)
 

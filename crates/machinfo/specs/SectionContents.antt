@@ -1,4 +1,4 @@
--- The strings of the sections of an image (`mach-o/loader.h`, S_CSTRING_LITERALS), and its initializers, as rows.
+-- The strings of the sections of an image (`mach-o/loader.h`, S_CSTRING_LITERALS) as rows.
 use Rattle.std.specs.Prelude.{◌≡◌, ◌==◌, ◌++◌, ◌∷◌, ℕ, ◌+◌, ◌%◌, ◌^◌, bit_and, Bool, List, [], Option, Some, None, Result, Ok, Err, codes, length, map, nat_lt}
 use Rattle.std.specs.Prelude.{if◌then◌else◌}
 use Rattle.std.specs.Str.{is_utf8}
@@ -9,17 +9,11 @@ use Rattle.mach_records.specs.declared.segments.Section64.{Section64}
 use Rattle.mach_parts.specs.NumberedLeft.{readable_left}
 use Rattle.mach_parts.specs.SectionRecord.{bytes_of_section, readable_sections}
 use Rattle.mach_parts.specs.declared.segment.numbered.NumberedSection.{NumberedSection}
-use Rattle.goblin_mach.specs.FixupsLeft.{reported_first}
 use Rattle.goblin_mach.specs.ImageFacts.{Facts}
-use Rattle.goblin_mach.specs.Initializers.{initializers_left}
-use Rattle.goblin_mach.specs.SlotFacts.{HasInitializers}
 use Rattle.goblin_mach.specs.Strings.{strings_from, strings_left}
-use Rattle.goblin_mach.specs.declared.initializers.Initializer.{Initializer}
-use Rattle.goblin_mach.specs.declared.initializers.InitializerIterator.{InitializerIterator}
 use Rattle.mach_cli.specs.Fields.{FieldView, alone_field, field_of, held_bytes, hex, line_field, optional_text, text, wide_field}
 use Rattle.mach_cli.specs.JsonText.{name_in_field}
 use Rattle.machinfo.specs.PartFields.{text_or_dash}
-use Rattle.machinfo.specs.declared.initializers.InitRows.{InitRows}
 use Rattle.machinfo.specs.declared.strings.OpenStrings.{OpenStrings}
 use Rattle.machinfo.specs.declared.strings.StringRow.{StringRow}
 use Rattle.machinfo.specs.declared.strings.StringRows.{StringRows}
@@ -57,18 +51,6 @@ strings_after bytes end (n ∷ ns) =
 abbrev pub image_strings : Facts → List (Result StringRowView Fault)
 image_strings f = strings_after f.bytes 0 (readable_sections f.segments)
 
--- ---- initializers
-
--- all of them, or why there are none
-abbrev pub listed_or_fault : Result (List (Result Initializer Fault)) Fault → List (Result Initializer Fault)
-listed_or_fault (Ok items) = items
-listed_or_fault (Err f) = Err f ∷ []
-
--- These are the initializers of the image at an offset.
-abbrev pub HasInitRows : List ℕ → ℕ → List (Result Initializer Fault) → Type 0
-HasInitRows bytes o items =
-    (found : Result (List (Result Initializer Fault)) Fault) × HasInitializers bytes o found × (items ≡ listed_or_fault found)
-
 -- ---- fields
 
 -- an address, and the segment and the section that hold it by their names
@@ -90,10 +72,6 @@ string_fields s =
     located_fields ((s.0.section.addr + s.1) % 2 ^ 64) s.0
     ++ (field_of (codes "hex") (held_bytes s.2) 3 ∷ alone_field (codes "text") (optional_text (text_if_utf8 s.2)) ∷ [])
 
--- the address of the slot, and that of the function
-abbrev pub init_fields : Initializer → List FieldView
-init_fields i = located_fields i.slot i.section ++ (field_of (codes "target") (hex i.target) 3 ∷ [])
-
 -- ---- what the code's values mean
 
 abbrev pub string_row_view : StringRow → StringRowView
@@ -108,10 +86,3 @@ open_strings_left (Some o) = rows_of_strings o.section (strings_left o.strings)
 
 abbrev pub string_rows_left : StringRows → List (Result StringRowView Fault)
 string_rows_left it = open_strings_left it.current ++ strings_after it.bytes.now it.end (readable_left it.sections)
-
-abbrev pub inits_in : Option InitializerIterator → List (Result Initializer Fault)
-inits_in None = []
-inits_in (Some it) = initializers_left it
-
-abbrev pub init_rows_left : InitRows → List (Result Initializer Fault)
-init_rows_left it = reported_first it.refusal ++ inits_in it.items

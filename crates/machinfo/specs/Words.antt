@@ -13,7 +13,7 @@ use Rattle.machinfo.specs.declared.word.Word.{Word}
 use Rattle.machinfo.specs.declared.word.Word.TheVariants.{Commands, CommandsAlone, Starts, Slots, Indirect, Data}
 use Rattle.machinfo.specs.declared.word.Word.TheVariants.{Options, Tools, Notes, Providers, Libraries, Rebases}
 use Rattle.machinfo.specs.declared.word.Word.TheVariants.{Id, Weak, Segments, Sections, Uuid, Rpaths, Entry, Header, Security, SecurityExplained}
-use Rattle.machinfo.specs.declared.word.Word.TheVariants.{Relocations, Strings, Inits, Bytes}
+use Rattle.machinfo.specs.declared.word.Word.TheVariants.{Relocations, Strings, Bytes}
 
 -- how a word is spelled
 abbrev pub spelling_of : Word → List ℕ
@@ -41,14 +41,13 @@ spelling_of Security = codes "security"
 spelling_of SecurityExplained = codes "security"
 spelling_of Relocations = codes "relocations"
 spelling_of Strings = codes "strings"
-spelling_of Inits = codes "inits"
 spelling_of (Bytes name) = codes "bytes"
 
 -- the words that a call may have
 abbrev pub list_words : List Word
 list_words =
     Commands ∷ Starts ∷ Slots ∷ Indirect ∷ Data ∷ Options ∷ Tools ∷ Notes ∷ Providers ∷ Libraries ∷ Id ∷ Rebases ∷ Weak ∷ Segments ∷ Sections
-    ∷ Uuid ∷ Rpaths ∷ Entry ∷ Header ∷ Security ∷ Relocations ∷ Strings ∷ Inits ∷ []
+    ∷ Uuid ∷ Rpaths ∷ Entry ∷ Header ∷ Security ∷ Relocations ∷ Strings ∷ []
 
 -- the first word with a spelling
 abbrev pub word_among : List Word → List ℕ → Option Word
@@ -58,11 +57,13 @@ word_among (w ∷ others) text = if bytes_eq text (spelling_of w) then Some w el
 abbrev pub word_named : List ℕ → Option Word
 word_named text = word_among list_words text
 
--- what a spelling selects: the exports, the imports, or a word's list
+-- what a spelling selects: the exports, the imports, the initializers, or a word's list
 unfoldable pub choice_named : List ℕ → Option Choice
 choice_named text =
     if bytes_eq text (codes "exports") then Some choices.Exports
-    else (if bytes_eq text (codes "imports") then Some choices.Imports else option_map (λ word. choices.Word word) (word_named text))
+    else (if bytes_eq text (codes "imports") then Some choices.Imports
+    else (if bytes_eq text (codes "inits") then Some choices.Inits
+    else option_map (λ word. choices.Word word) (word_named text)))
 
 -- the word of the list that explains the items of another, if there is one; and the choice of it, if that is asked for
 abbrev pub explained_word : Word → Word

@@ -6,12 +6,14 @@ ghost use Rattle.goblin_mach.specs.OpenImage.{IsLossyImage};
 ghost use Rattle.mach_cli.specs.Failures.{IfMemory};
 ghost use Rattle.machinfo.specs.ExportRows.{HasExportFields};
 ghost use Rattle.machinfo.specs.Imports.{HasImportFields};
+ghost use Rattle.machinfo.specs.Initializers.{HasInitFields};
 ghost use Rattle.machinfo.specs.ImageLines.{AreImageListMembers, AreImageSummaryMembers, AreInfoMembers, AreItemMembers, AreListedMembers};
 ghost use Rattle.machinfo.specs.ImageLines.{counts_end};
 
 use crate::counts::{COUNTED, Form, print_counts};
 use crate::export_rows::{ExportForm, print_exports_of, walk_of};
 use crate::imports::ImportList;
+use crate::initializers::InitList;
 use crate::list::{ListUse, use_list};
 use crate::members::write_front;
 use crate::word::{Choice, Word};
@@ -46,6 +48,7 @@ impl ImageView for InfoObjects {
             Some(Choice::Word(word)) => Ok(write_rows(word, image, left, out)?),
             Some(Choice::Exports) => write_exports(alloc, image, left, out),
             Some(Choice::Imports) => write_imports(alloc, image, left, out),
+            Some(Choice::Inits) => write_inits(alloc, image, left, out),
             Some(Choice::At(address)) => {
                 let objects = AddressObjectsOf {
                     addresses: &[address],
@@ -112,6 +115,22 @@ fn write_imports<A: Allocator + Clone, O: Write>(
         bindings: image.bindings(),
     };
     Ok(write_items("imports", list, 0, left, out)?)
+}
+
+// Writes the initializers of an image as objects, at most `left` of them.
+fn write_inits<A: Allocator + Clone, O: Write>(
+    alloc: &A,
+    image: &MachO<'_, A>,
+    left: usize,
+    out: &mut O,
+) -> Result<Outcome, ShowFailure>
+    ensures shown { (bytes : List ℕ) → IsLossyImage bytes 0 image.now → IfOk result (λ outcome. (text : List ℕ)
+        × AreListedMembers (codes "inits") (HasInitFields bytes 0) left text outcome.whole outcome.left
+        × Appends (O.contents out.old) (O.contents out.new) text) }
+    ensures memory { IfErr result (IfMemory (Appends (O.contents out.old) (O.contents out.new) [])) }
+{
+    let list = InitList::of(alloc, image)?;
+    Ok(write_items("inits", list, 0, left, out)?)
 }
 
 // Writes the items of a list as an array of this name, at most `left` of them.

@@ -10,7 +10,6 @@ ghost use Rattle.machinfo.specs.Lists.{OfRows};
 
 use crate::command_rows::CommandRows;
 use crate::commands::NumberedCommands;
-use crate::initializers::InitRows;
 use crate::lists::{
     BuildTools, DataInCode, FunctionStarts, IndirectSymbols, Libraries, LinkerOptions, Rebases,
     Slots, WeakBinds,
@@ -126,7 +125,6 @@ pub fn use_list<U: ListUse, A: Allocator, O: Write>(
             how.of_list(list, past, out)
         }
         Word::Strings => how.of_list(StringRows::of(image), 0, out),
-        Word::Inits => how.of_list(InitRows::of(image), 0, out),
         Word::Bytes(name) => how.of_list(ByteRows::of(image, &name), 0, out),
     }
 }

@@ -208,8 +208,8 @@ pub fn name_of_found(found: &Option<NumberedSection>) -> Option<&str>
     }
 }
 
-// Returns the name of a symbol.
-fn name_of_symbol<'a>(symbol: Option<EntrySymbol<'a>>) -> Option<&'a str>
+/// Returns the name of a symbol.
+pub fn name_of_symbol<'a>(symbol: Option<EntrySymbol<'a>>) -> Option<&'a str>
     ensures { text_in result ≡ entry_symbol_name (option_map entry_symbol_view symbol.entry) }
 {
     match symbol {
@@ -218,8 +218,8 @@ fn name_of_symbol<'a>(symbol: Option<EntrySymbol<'a>>) -> Option<&'a str>
     }
 }
 
-// Returns the field for how far an address is above a symbol; a line has it only if it is above it.
-fn distance_field(symbol: Option<EntrySymbol<'_>>) -> Field<'static>
+/// Returns the field for how far an address is above a symbol; a line has it only if it is above it.
+pub fn distance_field(symbol: Option<EntrySymbol<'_>>) -> Field<'static>
     ensures { field_view result ≡ entry_distance_field (option_map entry_symbol_view symbol.entry) }
 {
     match symbol {
@@ -235,8 +235,8 @@ fn distance_field(symbol: Option<EntrySymbol<'_>>) -> Field<'static>
     }
 }
 
-// Returns the sign before the distance.
-fn above_field(symbol: Option<EntrySymbol<'_>>) -> Field<'static>
+/// Returns the sign before the distance.
+pub fn above_field(symbol: Option<EntrySymbol<'_>>) -> Field<'static>
     ensures { field_view result ≡ above_field (option_map entry_symbol_view symbol.entry) }
 {
     match symbol {

@@ -10,7 +10,7 @@ ghost use Rattle.goblin_mach.specs.ImageFacts.{facts_view};
 ghost use Rattle.goblin_mach.specs.OpenImage.{commands_view, segments_view};
 ghost use Rattle.machinfo.specs.PartFields.{entry_part_fields, header_part_fields, one_row, paths_numbered_left, rpath_part_fields, rpath_rows_from};
 ghost use Rattle.machinfo.specs.PartFields.{segment_part_fields, segment_rows_from, segments_numbered_left, uuid_part_fields};
-ghost use Rattle.machinfo.specs.Parts.{IsEntryRow, IsSymbolThere, entry_symbol_view, entry_view, uuid_row_by, uuid_rows_left};
+ghost use Rattle.machinfo.specs.Parts.{IsEntryRow, IsSymbolThere, entry_symbol_view, entry_view, symbol_seen, uuid_row_by, uuid_rows_left};
 
 use crate::part_fields::{
     entry_fields, header_flags, header_members, rpath_fields, segment_fields, uuid_fields,
@@ -18,7 +18,7 @@ use crate::part_fields::{
 use goblin_mach::header::Header;
 use goblin_mach::load_command::LoadCommand;
 use goblin_mach::segment::{NumberedSection, Segment};
-use goblin_mach::{MachO, Result};
+use goblin_mach::{MachO, Result, SymbolAt};
 use mach_audit::uuid_by;
 use mach_cli::{FieldsForm, ItemList};
 use std::alloc::Allocator;
@@ -198,17 +198,24 @@ impl<'a, 'b> ItemList for NumberedPaths<'a, 'b> {
     }
 }
 
-// Returns the symbol at an address of an image, if there is one.
-fn symbol_at<'a, A: Allocator>(image: &MachO<'a, A>, address: u64) -> Option<EntrySymbol<'a>>
-    ensures { IsSymbolThere address (facts_view image.now) (option_map entry_symbol_view result) }
+/// Returns what is shown of a symbol, if there is one.
+pub fn symbol_to_show<'a>(found: Option<SymbolAt<'a>>) -> Option<EntrySymbol<'a>>
+    ensures { option_map entry_symbol_view result ≡ symbol_seen found.entry }
 {
-    match image.symbol_at(address) {
+    match found {
         Some(found) => Some(EntrySymbol {
             name: found.name,
             distance: found.distance,
         }),
         None => None,
     }
+}
+
+// Returns the symbol at an address of an image, if there is one.
+fn symbol_at<'a, A: Allocator>(image: &MachO<'a, A>, address: u64) -> Option<EntrySymbol<'a>>
+    ensures { IsSymbolThere address (facts_view image.now) (option_map entry_symbol_view result) }
+{
+    symbol_to_show(image.symbol_at(address))
 }
 
 /// Where an image begins to run, if that is known and was not taken.

@@ -6,13 +6,15 @@ ghost use Rattle.goblin_mach.specs.OpenImage.{IsLossyImage};
 ghost use Rattle.mach_cli.specs.Failures.{IfMemory};
 ghost use Rattle.machinfo.specs.ExportRows.{HasExportFields};
 ghost use Rattle.machinfo.specs.Imports.{HasImportFields};
-ghost use Rattle.machinfo.specs.Headings.{AreUnderHeading, exports_heading, list_heading, imports_heading};
+ghost use Rattle.machinfo.specs.Initializers.{HasInitFields};
+ghost use Rattle.machinfo.specs.Headings.{AreUnderHeading, exports_heading, list_heading, imports_heading, inits_heading};
 ghost use Rattle.machinfo.specs.ImageLines.{AreImageListLines, AreImageSummaryLines, AreInfoLines, AreListedLines};
 ghost use Rattle.machinfo.specs.RowFields.{has_names};
 
 use crate::counts::{COUNTED, Form, print_counts};
 use crate::export_rows::{ExportForm, print_exports_of, walk_of};
 use crate::imports::ImportList;
+use crate::initializers::InitList;
 use crate::list::use_list;
 use crate::list_lines::Lines;
 use crate::part_lines::print_parts;
@@ -57,6 +59,7 @@ impl ImageView for InfoLines {
             }
             Some(Choice::Exports) => print_exports(alloc, has_headings, image, limit, left, out),
             Some(Choice::Imports) => print_imports(alloc, has_headings, image, limit, left, out),
+            Some(Choice::Inits) => print_inits(alloc, has_headings, image, limit, left, out),
             Some(Choice::At(address)) => {
                 let line = AddressLinesOf {
                     addresses: &[address],
@@ -160,6 +163,35 @@ fn print_imports<A: Allocator + Clone, O: Write>(
         parts: &parts,
         bindings: image.bindings(),
     };
+    let mut lines = InForm {
+        list,
+        form: Line,
+        past: 0,
+        past_name: "",
+    };
+    Ok(print_listing(&mut lines, "refused", limit, left, out)?)
+}
+
+// Prints the initializers of an image, at most `left` of them; one that can't be read is a line that says why.
+fn print_inits<A: Allocator + Clone, O: Write>(
+    alloc: &A,
+    has_headings: bool,
+    image: &MachO<'_, A>,
+    limit: usize,
+    left: usize,
+    out: &mut O,
+) -> Result<Outcome, ShowFailure>
+    ensures shown { (bytes : List ℕ) → IsLossyImage bytes 0 image.now → IfOk result (λ outcome. (text : List ℕ)
+        × AreUnderHeading has_headings inits_heading (AreListedLines (HasInitFields bytes 0) limit left) text outcome.whole outcome.left
+        × Appends (O.contents out.old) (O.contents out.new) text) }
+    ensures memory { IfErr result (IfMemory (Appends (O.contents out.old) (O.contents out.new) [])) }
+{
+    let list = InitList::of(alloc, image)?;
+    print_heading(
+        has_headings,
+        "ADDRESS     SECTION          TARGET      SYMBOL",
+        out,
+    )?;
     let mut lines = InForm {
         list,
         form: Line,

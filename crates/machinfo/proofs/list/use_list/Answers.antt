@@ -16,7 +16,7 @@ use Rattle.machinfo.specs.ProvidedSymbols.{provided_left}
 use Rattle.machinfo.specs.Relocations.{relocation_rows_left}
 use Rattle.machinfo.specs.RowFields.{data_fields, fields_read, indirect_fields, provided_fields}
 use Rattle.machinfo.specs.SectionBytes.{byte_rows_left}
-use Rattle.machinfo.specs.SectionContents.{init_rows_left, string_rows_left}
+use Rattle.machinfo.specs.SectionContents.{string_rows_left}
 use Rattle.machinfo.specs.SectionRows.{sections_counted_left}
 use Rattle.machinfo.specs.declared.word.Word.TheVariants as words
 use Rattle.machinfo.proofs.Facts as facts
@@ -171,12 +171,6 @@ returns-in-Strings g c =
     rw c.in-Strings.is (λ bytes p. of_rows _ bytes _ _ _ _ _
     (facts.string_rows_are c.args.image.now bytes 0 p (string_rows_left c.of-in-Strings.result) c.of-in-Strings.ensures)
     c.of_list-in-Strings.ensures)
-
-pub returns-in-Inits : goal.returns-in-Inits
-returns-in-Inits g c =
-    rw c.in-Inits.is (λ bytes p. of_rows _ bytes _ _ _ _ _
-    (facts.init_rows_are c.args.image.now bytes 0 p (init_rows_left c.of-in-Inits.result) c.of-in-Inits.ensures)
-    c.of_list-in-Inits.ensures)
 
 pub returns-in-Bytes : goal.returns-in-Bytes
 returns-in-Bytes g c =

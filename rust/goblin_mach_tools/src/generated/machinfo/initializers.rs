@@ -3,42 +3,48 @@
 #![forbid(unsafe_code)]
 
 use crate::generated::mach_cli::{Field, FieldsForm, ItemList, Value};
+use crate::generated::machinfo::part_fields::{above_field, distance_field, name_of_symbol};
+use crate::generated::machinfo::parts::{EntrySymbol, symbol_to_show};
 use crate::generated::machinfo::strings::located_fields;
 use crate::shim::io;
 use crate::shim::io::Write;
-use goblin_mach::{Error, Initializer, InitializerIterator, MachO, Result};
+use goblin_mach::AllocError;
+use goblin_mach::{AddressMap, Initializer, InitializerIterator, MachO};
 
 /// The initializers of an image, or why they can't be read.
 pub struct InitRows<'a, 'b> {
-    pub refusal: Option<Error>,
+    /// The first of them, or the error, if it was not taken.
+    pub first: Option<goblin_mach::Result<Initializer>>,
+    /// Those after it.
     pub items: Option<InitializerIterator<'a, 'b>>,
 }
 
 impl<'a, 'b> InitRows<'a, 'b> {
-    /// Returns those of an image.
+    /// Returns those of an image. If there is no first one, there are none.
     ///
     /// <details><summary>Proved</summary>
     ///
-    /// - there is `found : _` with: `AreImageInitializers (ctx_view image) (bytes_view image) (chained_view image) (segments_view image) found × (init_rows_left result ≡ listed_or_fault found)`
+    /// - *listed*: there is `found : _` with: `AreImageInitializers (ctx_view image) (bytes_view image) (chained_view image) (segments_view image) found × (init_rows_left result ≡ listed_or_fault found)`
+    /// - *none*: if `result.first ≡ None`, `init_rows_left result ≡ []`
     ///
     /// </details>
     pub fn of(image: &'b MachO<'a>) -> Self {
         match image.initializers() {
-            Ok(items) => InitRows {
-                refusal: None,
+            Ok(mut items) => InitRows {
+                first: items.next(),
                 items: Some(items),
             },
             Err(e) => InitRows {
-                refusal: Some(e),
+                first: Some(Err(e)),
                 items: None,
             },
         }
     }
 
     // Returns the next initializer, or an error.
-    fn take_next(&mut self) -> Option<Result<Initializer>> {
-        if let Some(error) = self.refusal.take() {
-            return Some(Err(error));
+    fn take_next(&mut self) -> Option<goblin_mach::Result<Initializer>> {
+        if let Some(first) = self.first.take() {
+            return Some(first);
         }
         match &mut self.items {
             Some(items) => items.next(),
@@ -47,15 +53,86 @@ impl<'a, 'b> InitRows<'a, 'b> {
     }
 }
 
-impl<'a, 'b> ItemList for InitRows<'a, 'b> {
-    type Item = Initializer;
+/// An initializer, and the symbol at the function that it calls.
+#[derive(Clone, Copy)]
+pub struct InitRow<'a> {
+    /// The initializer.
+    pub initializer: Initializer,
+    /// The symbol, if there is one.
+    pub symbol: Option<EntrySymbol<'a>>,
+}
 
-    fn next_item(&mut self) -> Option<Result<Initializer>> {
-        self.take_next()
+/// The initializers of an image, with its symbols by address.
+pub struct InitList<'a, 'b> {
+    /// The symbols, if there are initializers.
+    pub symbols: Option<AddressMap<'a, 'b>>,
+    /// The initializers.
+    pub rows: InitRows<'a, 'b>,
+}
+
+impl<'a, 'b> InitList<'a, 'b> {
+    /// Returns those of an image. Only if it has an initializer, its symbols are sorted. It is refused only if memory runs out.
+    ///
+    /// <details><summary>Proved</summary>
+    ///
+    /// - for each `bytes : List ℕ`, if `IsLossyImage bytes 0 image`, if `Ok(list)`: `HasInitFields bytes 0 (inits_left list)`
+    ///
+    /// </details>
+    pub fn of(image: &'b MachO<'a>) -> Result<Self, AllocError> {
+        let rows = InitRows::of(image);
+        if rows.first.is_none() {
+            let symbols = None;
+            return Ok(InitList { symbols, rows });
+        }
+        match AddressMap::new(image) {
+            Ok(symbols) => Ok(InitList {
+                symbols: Some(symbols),
+                rows,
+            }),
+            Err(_) => Err(AllocError),
+        }
+    }
+}
+
+// Returns the symbol at an address, if there is one.
+fn symbol_in<'a>(symbols: &Option<AddressMap<'a, '_>>, address: u64) -> Option<EntrySymbol<'a>> {
+    match symbols {
+        Some(symbols) => symbol_to_show(symbols.symbol_at(address)),
+        None => None,
+    }
+}
+
+// Returns an initializer with the symbol at its function.
+fn with_symbol<'a>(symbols: &Option<AddressMap<'a, '_>>, initializer: Initializer) -> InitRow<'a> {
+    InitRow {
+        initializer,
+        symbol: symbol_in(symbols, initializer.target),
+    }
+}
+
+// Returns the fields for the function of an initializer: its address, and the symbol there with the distance.
+fn target_fields<'a>(target: u64, symbol: Option<EntrySymbol<'a>>) -> [Field<'a>; 4] {
+    [
+        Field::new("target", Value::Hex(target), 3).wide(11),
+        Field::new("symbol", Value::OptionalText(name_of_symbol(symbol)), 4),
+        above_field(symbol),
+        distance_field(symbol),
+    ]
+}
+
+impl<'a, 'b> ItemList for InitList<'a, 'b> {
+    type Item = InitRow<'a>;
+
+    fn next_item(&mut self) -> Option<goblin_mach::Result<InitRow<'a>>> {
+        match self.rows.take_next()? {
+            Ok(initializer) => Some(Ok(with_symbol(&self.symbols, initializer))),
+            Err(error) => Some(Err(error)),
+        }
     }
 
-    fn write_item<F: FieldsForm, O: Write>(found: &Initializer, out: &mut O) -> io::Result<()> {
-        let target = [Field::new("target", Value::Hex(found.target), 3)];
+    fn write_item<F: FieldsForm, O: Write>(row: &InitRow<'a>, out: &mut O) -> io::Result<()> {
+        let found = &row.initializer;
+        let target = target_fields(found.target, row.symbol);
         F::write_both(&located_fields(found.slot, &found.section), &target, out)
     }
 }

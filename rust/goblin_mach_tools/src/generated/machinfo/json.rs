@@ -9,6 +9,7 @@ use crate::generated::mach_cli::{
 use crate::generated::machinfo::counts::{COUNTED, Form, print_counts};
 use crate::generated::machinfo::export_rows::{ExportForm, print_exports_of, walk_of};
 use crate::generated::machinfo::imports::ImportList;
+use crate::generated::machinfo::initializers::InitList;
 use crate::generated::machinfo::list::{ListUse, use_list};
 use crate::generated::machinfo::members::write_front;
 use crate::generated::machinfo::word::{Choice, Word};
@@ -35,6 +36,7 @@ impl ImageView for InfoObjects {
             Some(Choice::Word(word)) => Ok(write_rows(word, image, left, out)?),
             Some(Choice::Exports) => write_exports(image, left, out),
             Some(Choice::Imports) => write_imports(image, left, out),
+            Some(Choice::Inits) => write_inits(image, left, out),
             Some(Choice::At(address)) => {
                 let objects = AddressObjectsOf {
                     addresses: &[address],
@@ -86,6 +88,16 @@ fn write_imports<O: Write>(
         bindings: image.bindings(),
     };
     Ok(write_items("imports", list, 0, left, out)?)
+}
+
+// Writes the initializers of an image as objects, at most `left` of them.
+fn write_inits<O: Write>(
+    image: &MachO<'_>,
+    left: usize,
+    out: &mut O,
+) -> Result<Outcome, ShowFailure> {
+    let list = InitList::of(image)?;
+    Ok(write_items("inits", list, 0, left, out)?)
 }
 
 // Writes the items of a list as an array of this name, at most `left` of them.

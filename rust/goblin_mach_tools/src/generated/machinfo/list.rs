@@ -5,7 +5,6 @@
 use crate::generated::mach_cli::{ItemList, Outcome};
 use crate::generated::machinfo::command_rows::CommandRows;
 use crate::generated::machinfo::commands::NumberedCommands;
-use crate::generated::machinfo::initializers::InitRows;
 use crate::generated::machinfo::lists::{
     BuildTools, DataInCode, FunctionStarts, IndirectSymbols, Libraries, LinkerOptions, Rebases,
     Slots, WeakBinds,
@@ -112,7 +111,6 @@ pub fn use_list<U: ListUse, O: Write>(
             how.of_list(list, past, out)
         }
         Word::Strings => how.of_list(StringRows::of(image), 0, out),
-        Word::Inits => how.of_list(InitRows::of(image), 0, out),
         Word::Bytes(name) => how.of_list(ByteRows::of(image, &name), 0, out),
     }
 }

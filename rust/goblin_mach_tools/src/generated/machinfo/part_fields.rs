@@ -226,16 +226,28 @@ pub fn name_of_found(found: &Option<NumberedSection>) -> Option<&str> {
     }
 }
 
-// Returns the name of a symbol.
-fn name_of_symbol<'a>(symbol: Option<EntrySymbol<'a>>) -> Option<&'a str> {
+/// Returns the name of a symbol.
+///
+/// <details><summary>Proved</summary>
+///
+/// - `text_in result ≡ entry_symbol_name (option_map entry_symbol_view symbol.entry)`
+///
+/// </details>
+pub fn name_of_symbol<'a>(symbol: Option<EntrySymbol<'a>>) -> Option<&'a str> {
     match symbol {
         Some(symbol) => Some(symbol.name),
         None => None,
     }
 }
 
-// Returns the field for how far an address is above a symbol; a line has it only if it is above it.
-fn distance_field(symbol: Option<EntrySymbol<'_>>) -> Field<'static> {
+/// Returns the field for how far an address is above a symbol; a line has it only if it is above it.
+///
+/// <details><summary>Proved</summary>
+///
+/// - `field_view result ≡ entry_distance_field (option_map entry_symbol_view symbol.entry)`
+///
+/// </details>
+pub fn distance_field(symbol: Option<EntrySymbol<'_>>) -> Field<'static> {
     match symbol {
         Some(symbol) => {
             let distance = symbol.distance;
@@ -249,8 +261,14 @@ fn distance_field(symbol: Option<EntrySymbol<'_>>) -> Field<'static> {
     }
 }
 
-// Returns the sign before the distance.
-fn above_field(symbol: Option<EntrySymbol<'_>>) -> Field<'static> {
+/// Returns the sign before the distance.
+///
+/// <details><summary>Proved</summary>
+///
+/// - `field_view result ≡ above_field (option_map entry_symbol_view symbol.entry)`
+///
+/// </details>
+pub fn above_field(symbol: Option<EntrySymbol<'_>>) -> Field<'static> {
     match symbol {
         Some(symbol) => Field::of_line(Value::Text("+"), column_if(symbol.distance != 0, 5)),
         None => Field::of_line(Value::Text(""), 0),

@@ -12,7 +12,7 @@ use goblin_mach::audit::uuid_by;
 use goblin_mach::header::Header;
 use goblin_mach::load_command::LoadCommand;
 use goblin_mach::segment::{NumberedSection, Segment};
-use goblin_mach::{MachO, Result};
+use goblin_mach::{MachO, Result, SymbolAt};
 
 /// A UUID, and the cpu of the image.
 #[derive(Clone, Copy)]
@@ -183,15 +183,26 @@ impl<'a, 'b> ItemList for NumberedPaths<'a, 'b> {
     }
 }
 
-// Returns the symbol at an address of an image, if there is one.
-fn symbol_at<'a>(image: &MachO<'a>, address: u64) -> Option<EntrySymbol<'a>> {
-    match image.symbol_at(address) {
+/// Returns what is shown of a symbol, if there is one.
+///
+/// <details><summary>Proved</summary>
+///
+/// - `option_map entry_symbol_view result ≡ symbol_seen found.entry`
+///
+/// </details>
+pub fn symbol_to_show<'a>(found: Option<SymbolAt<'a>>) -> Option<EntrySymbol<'a>> {
+    match found {
         Some(found) => Some(EntrySymbol {
             name: found.name,
             distance: found.distance,
         }),
         None => None,
     }
+}
+
+// Returns the symbol at an address of an image, if there is one.
+fn symbol_at<'a>(image: &MachO<'a>, address: u64) -> Option<EntrySymbol<'a>> {
+    symbol_to_show(image.symbol_at(address))
 }
 
 /// Where an image begins to run, if that is known and was not taken.

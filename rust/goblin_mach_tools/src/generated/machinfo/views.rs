@@ -8,6 +8,7 @@ use crate::generated::mach_cli::{
 use crate::generated::machinfo::counts::{COUNTED, Form, print_counts};
 use crate::generated::machinfo::export_rows::{ExportForm, print_exports_of, walk_of};
 use crate::generated::machinfo::imports::ImportList;
+use crate::generated::machinfo::initializers::InitList;
 use crate::generated::machinfo::list::use_list;
 use crate::generated::machinfo::list_lines::Lines;
 use crate::generated::machinfo::part_lines::print_parts;
@@ -45,6 +46,7 @@ impl ImageView for InfoLines {
             }
             Some(Choice::Exports) => print_exports(has_headings, image, limit, left, out),
             Some(Choice::Imports) => print_imports(has_headings, image, limit, left, out),
+            Some(Choice::Inits) => print_inits(has_headings, image, limit, left, out),
             Some(Choice::At(address)) => {
                 let line = AddressLinesOf {
                     addresses: &[address],
@@ -131,6 +133,29 @@ fn print_imports<O: Write>(
         parts: &parts,
         bindings: image.bindings(),
     };
+    let mut lines = InForm {
+        list,
+        form: Line,
+        past: 0,
+        past_name: "",
+    };
+    Ok(print_listing(&mut lines, "refused", limit, left, out)?)
+}
+
+// Prints the initializers of an image, at most `left` of them; one that can't be read is a line that says why.
+fn print_inits<O: Write>(
+    has_headings: bool,
+    image: &MachO<'_>,
+    limit: usize,
+    left: usize,
+    out: &mut O,
+) -> Result<Outcome, ShowFailure> {
+    let list = InitList::of(image)?;
+    print_heading(
+        has_headings,
+        "ADDRESS     SECTION          TARGET      SYMBOL",
+        out,
+    )?;
     let mut lines = InForm {
         list,
         form: Line,

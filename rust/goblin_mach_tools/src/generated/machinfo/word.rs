@@ -13,6 +13,8 @@ pub enum Choice {
     Exports,
     /// What dyld binds in it.
     Imports,
+    /// The functions that dyld calls before its main function.
+    Inits,
     /// What it has at this address.
     At(u64),
 }
@@ -68,8 +70,6 @@ pub enum Word {
     Relocations,
     /// The strings of its sections.
     Strings,
-    /// The functions that dyld calls before its main function.
-    Inits,
     /// The bytes of its first section with these names.
     Bytes(SectionName),
 }
@@ -86,6 +86,7 @@ impl Choice {
         match text {
             "exports" => Some(Choice::Exports),
             "imports" => Some(Choice::Imports),
+            "inits" => Some(Choice::Inits),
             _ => Some(Choice::Word(Word::named(text)?)),
         }
     }
@@ -137,7 +138,6 @@ impl Word {
             "security" => Some(Word::Security),
             "relocations" => Some(Word::Relocations),
             "strings" => Some(Word::Strings),
-            "inits" => Some(Word::Inits),
             _ => None,
         }
     }
@@ -175,7 +175,6 @@ impl Word {
             Word::SecurityExplained => "security",
             Word::Relocations => "relocations",
             Word::Strings => "strings",
-            Word::Inits => "inits",
             Word::Bytes(_) => "bytes",
         }
     }
@@ -219,7 +218,6 @@ impl Word {
                 "SEGMENT      SECTION          ADDRESS  TYPE                    TARGET PCREL SIZE"
             }
             Word::Strings => "ADDRESS     SECTION          STRING",
-            Word::Inits => "ADDRESS     SECTION          TARGET",
             Word::Bytes(_) => "ADDRESS     BYTES                            TEXT",
         }
     }

@@ -30,3 +30,8 @@ returns-in-Some-Imports-clause-shown g c =
 pub returns-in-Some-At-clause-shown : goal.returns-in-Some-At-clause-shown
 returns-in-Some-At-clause-shown g c =
     let is_at = rw c.in-Some-At.is at c.in-Some-At.field-0-is in rw (c.in-Some-At.is, is_at) c.show.ensures.shown
+
+-- initializers are selected
+pub returns-in-Some-Inits-clause-shown : goal.returns-in-Some-Inits-clause-shown
+returns-in-Some-Inits-clause-shown g c =
+    let is_inits = rw c.in-Some-Inits.is at c.in-Some-Inits.field-0-is in rw (c.in-Some-Inits.is, is_inits) c.print_inits.ensures.shown
