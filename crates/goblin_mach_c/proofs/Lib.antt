@@ -27,7 +27,7 @@ pub mod BeginsThere
 pub mod FoundExports
 pub mod PartsWritten
 pub mod RefusedFiles
-pub mod ArchiveSaid
+pub mod ArchiveListed
 pub mod NumberedVerdicts
 pub mod AddedRows
 pub mod FoundEntitlements

@@ -4,19 +4,17 @@ use Rattle.mach_base.specs.Fault.{Fault}
 use Rattle.mach_archive.specs.Fields.{field_number}
 use Rattle.mach_archive.specs.IndexSymbols.{IndexSymbol}
 use Rattle.mach_archive.specs.MemberHeaders.{date_field, gid_field, mode_field, uid_field}
-use Rattle.mach_archive.specs.MemberNames.{member_name_bytes}
+use Rattle.mach_archive.specs.MemberNames.{member_name_at}
 use Rattle.mach_archive.specs.Members.{MemberView}
-use Rattle.mach_c_places.specs.ArchiveFinds.{archive_form, ReportsFound}
-use Rattle.mach_c_places.specs.ArchivePlaces.{ReportsText}
-use Rattle.mach_c_places.specs.PlacedItems.{ReportedName}
-use Rattle.mach_c_places.specs.declared.archive.find.ArchiveForm.{ArchiveForm}
-use Rattle.mach_c_places.specs.declared.archive.find.ArchiveForm.TheVariants.{Bsd, Gnu, NoArchive, Thin}
+use Rattle.goblin_mach_c.specs.ArchiveItems.{archive_form}
 use Rattle.goblin_mach_c.specs.Codes.{code_of_fault}
+use Rattle.goblin_mach_c.specs.declared.archive.ArchiveForm.{ArchiveForm}
+use Rattle.goblin_mach_c.specs.declared.archive.ArchiveForm.TheVariants.{Bsd, Gnu, NoArchive, Thin}
 use Rattle.goblin_mach_c.specs.declared.archive.gm_archive_member.{gm_archive_member}
 use Rattle.goblin_mach_c.specs.declared.archive.gm_archive_symbol.{gm_archive_symbol}
 
 -- the offset of a name, its length, and its code
-abbrev pub name_numbers : ReportedName → ℕ × ℕ × ℕ
+abbrev pub name_numbers : Result (ℕ × ℕ) Fault → ℕ × ℕ × ℕ
 name_numbers (Ok (place, len)) = (place, len, 0)
 name_numbers (Err f) = (0, 0, code_of_fault f)
 
@@ -24,8 +22,8 @@ name_numbers (Err f) = (0, 0, code_of_fault f)
 abbrev pub number_or_none : Option ℕ → ℕ
 number_or_none n = unwrap_or n (2 ^ 64 - 1)
 
-abbrev pub member_row : MemberView × ReportedName → gm_archive_member
-member_row (m, reported) =
+abbrev pub member_row : MemberView → gm_archive_member
+member_row m =
     record {
       date = number_or_none (field_number 10 (date_field m.fields));
       uid = number_or_none (field_number 10 (uid_field m.fields));
@@ -34,9 +32,9 @@ member_row (m, reported) =
       header = m.offset;
       «data» = m.start;
       data_len = length m.bytes;
-      name = (name_numbers reported).0;
-      name_len = (name_numbers reported).1;
-      name_code = (name_numbers reported).2;
+      name = (name_numbers (member_name_at m)).0;
+      name_len = (name_numbers (member_name_at m)).1;
+      name_code = (name_numbers (member_name_at m)).2;
       code = 0;
     }
 
@@ -57,27 +55,20 @@ no_member code =
       code = code;
     }
 
--- a row is that of a member, with the offset of its name; or says why there is none
-abbrev pub SaysMember : List ℕ → Result MemberView Fault → gm_archive_member → Type 0
-SaysMember bytes (Ok m) row = (reported : ReportedName) × ReportsText bytes (member_name_bytes m) reported × (row ≡ member_row (m, reported))
-SaysMember bytes (Err f) row = row ≡ no_member (code_of_fault f)
+-- the row of a member, with the offset of its name; or it says why there is none
+abbrev pub row_of_member : Result MemberView Fault → gm_archive_member
+row_of_member (Ok m) = member_row m
+row_of_member (Err f) = no_member (code_of_fault f)
 
-abbrev pub archive_symbol_row : IndexSymbol × ReportedName → gm_archive_symbol
-archive_symbol_row (s, reported) =
-    record {
-      member = s.member;
-      name = (name_numbers reported).0;
-      name_len = (name_numbers reported).1;
-      code = (name_numbers reported).2;
-      reserved = 0;
-    }
+abbrev pub archive_symbol_row : IndexSymbol → gm_archive_symbol
+archive_symbol_row s = record { member = s.member; name = s.place; name_len = length s.name; code = 0; reserved = 0 }
 
 abbrev pub no_archive_symbol : ℕ → gm_archive_symbol
 no_archive_symbol code = record { member = 0; name = 0; name_len = 0; code = code; reserved = 0 }
 
-abbrev pub SaysArchiveSymbol : List ℕ → Result IndexSymbol Fault → gm_archive_symbol → Type 0
-SaysArchiveSymbol bytes (Ok s) row = (reported : ReportedName) × ReportsText bytes (Ok s.name) reported × (row ≡ archive_symbol_row (s, reported))
-SaysArchiveSymbol bytes (Err f) row = row ≡ no_archive_symbol (code_of_fault f)
+abbrev pub row_of_symbol : Result IndexSymbol Fault → gm_archive_symbol
+row_of_symbol (Ok s) = archive_symbol_row s
+row_of_symbol (Err f) = no_archive_symbol (code_of_fault f)
 
 -- ---- which archive the bytes are, and a member that is looked up
 
@@ -100,13 +91,11 @@ pub record IsCodeOf {A : Type 0} (there : Result A Fault) (code : ℕ) : Type 0 
   pub coded : code ≡ code_of_fault fault
 
 -- a member that was looked up; if there is none, a row of zeros
-abbrev pub found_row : Option (MemberView × ReportedName) → gm_archive_member
-found_row (Some placed) = member_row placed
+abbrev pub found_row : Option MemberView → gm_archive_member
+found_row (Some m) = member_row m
 found_row None = no_member 0
 
-pub record FindsMember (bytes : List ℕ) (there : Result (Option MemberView) Fault) (row : gm_archive_member) : Type 0 where
+pub record FindsMember (there : Result (Option MemberView) Fault) (row : gm_archive_member) : Type 0 where
   pub member : Option MemberView
   pub is : there ≡ Ok member
-  pub reported : Option (MemberView × ReportedName)
-  pub placed : ReportsFound bytes member reported
-  pub written : row ≡ found_row reported
+  pub written : row ≡ found_row member

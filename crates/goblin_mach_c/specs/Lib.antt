@@ -44,6 +44,8 @@ pub mod WeakBindsAfter
 pub mod RebaseRows
 pub mod RebasesAfter
 pub mod LayoutRows
+pub mod ArchiveItems
+pub mod ArchiveFinds
 pub mod ArchiveRows
 pub mod GivenFiles
 pub mod ResolveRows

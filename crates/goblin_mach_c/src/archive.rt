@@ -1,24 +1,18 @@
 //! The members and the symbols of an archive, and which kind of archive some bytes are.
 
-ghost use Rattle.std.specs.Prelude.{◌≡◌, ◌≢◌, ℕ, List, Result, drop};
-ghost use Rattle.mach_base.specs.Fault.{Fault};
+ghost use Rattle.std.specs.Prelude.{◌≡◌, ◌≢◌, drop, map};
+ghost use Rattle.mach_base.specs.Answer.{Reads};
 ghost use Rattle.mach_base.specs.Items.{read_as};
-ghost use Rattle.mach_archive.specs.IndexSymbols.{IndexSymbol};
-ghost use Rattle.mach_archive.specs.Members.{MemberView};
-ghost use Rattle.mach_c_places.specs.ArchiveFinds.{archive_form};
-ghost use Rattle.mach_c_places.specs.ArchiveItems.{archive_members, archive_symbols};
-ghost use Rattle.mach_c_places.specs.PlacedItems.{placed_member_view, placed_symbol_view, placed_members_left, placed_symbols_left};
-ghost use Rattle.mach_c_places.specs.PlacedItems.{AreMembersOver, AreSymbolsOver};
+ghost use Rattle.mach_archive.specs.ArchiveViews.{archive_symbol_view, archive_symbols_left, member_read, member_view, members_left};
+ghost use Rattle.goblin_mach_c.specs.ArchiveItems.{archive_form, archive_members, archive_symbols, form_of_kind, index_symbols_in, index_symbols_left};
+ghost use Rattle.goblin_mach_c.specs.ArchiveItems.{members_in, AreNamesThere, AreSymbolNamesThere};
 ghost use Rattle.goblin_mach_c.specs.ArchiveRows as rows;
-ghost use Rattle.goblin_mach_c.specs.ArchiveRows.{SaysMember, SaysArchiveSymbol};
-ghost use Rattle.goblin_mach_c.specs.Say.{FillsBy};
+ghost use Rattle.goblin_mach_c.specs.Fill.{Fills};
 
 use crate::errors::{GM_OK, code_of, gm_error, refuse};
-use crate::items::{ItemRows, fill_items, skip_items};
+use crate::rows::{Rows, fill, fill_one, skip};
+use mach_archive::{Archive, ArchiveKind, ArchiveSymbol, ArchiveSymbols, Member, Members};
 use mach_base::Result;
-use mach_c_places::{
-    ArchiveForm, PlacedMember, PlacedMembers, PlacedSymbol, PlacedSymbols, form_of,
-};
 
 /// A member of an archive: the offsets of its header, its bytes and its name, and the numbers of the header, each `GM_NO_NUMBER`
 /// if its field is no number.
@@ -65,11 +59,10 @@ fn name_numbers(reported: &Result<(usize, usize)>) -> (usize, usize, u32)
 }
 
 /// Returns a member as C sees it.
-pub fn member_row(placed: &PlacedMember<'_>) -> gm_archive_member
-    ensures { result ≡ rows.member_row (placed_member_view placed.now) }
+pub fn member_row(member: &Member<'_>) -> gm_archive_member
+    ensures { result ≡ rows.member_row (member_view member.now) }
 {
-    let member = &placed.member;
-    let (name, name_len, name_code) = name_numbers(&placed.name);
+    let (name, name_len, name_code) = name_numbers(&member.name_at());
     gm_archive_member {
         date: member.date().unwrap_or(u64::MAX),
         uid: member.uid().unwrap_or(u64::MAX),
@@ -105,15 +98,14 @@ pub fn no_member(code: u32) -> gm_archive_member
 }
 
 // Returns a symbol as C sees it.
-fn symbol_row(placed: &PlacedSymbol<'_>) -> gm_archive_symbol
-    ensures { result ≡ rows.archive_symbol_row (placed_symbol_view placed.now) }
+fn symbol_row(symbol: &ArchiveSymbol<'_>) -> gm_archive_symbol
+    ensures { result ≡ rows.archive_symbol_row (archive_symbol_view symbol.now) }
 {
-    let (name, name_len, code) = name_numbers(&placed.name);
     gm_archive_symbol {
-        member: placed.symbol.member,
-        name,
-        name_len,
-        code,
+        member: symbol.member,
+        name: symbol.name_at,
+        name_len: symbol.name.len(),
+        code: GM_OK,
         reserved: 0,
     }
 }
@@ -132,57 +124,62 @@ fn no_symbol(code: u32) -> gm_archive_symbol
 }
 
 // The members of an archive that are left.
-#[derive(Drop)]
+#[derive(Clone, Copy)]
 struct MemberRows<'a> {
-    members: PlacedMembers<'a>,
+    members: Members<'a>,
 }
 
-impl ItemRows for MemberRows<'_> {
+impl Rows for MemberRows<'_> {
     type Row = gm_archive_member;
 
-    ghost Source = { List ℕ };
-
-    ghost Item = { Result MemberView Fault };
-
-    ghost left = { λ it. placed_members_left it.members };
-
-    ghost IsOver = { λ bytes it. AreMembersOver bytes it.members };
-
-    ghost Says = { SaysMember };
+    ghost left = { λ it. map rows.row_of_member (members_left it.members) };
 
     fn next(&mut self) -> Option<gm_archive_member> {
         match self.members.next()? {
-            Ok(placed) => Some(member_row(&placed)),
+            Ok(member) => Some(member_row(&member)),
             Err(why) => Some(no_member(code_of(&why))),
         }
     }
 }
 
-// The symbols of an archive's index that are left.
-#[derive(Drop)]
+// The symbols of an archive's index that are left; none without an index.
+#[derive(Clone, Copy)]
 struct SymbolRows<'a> {
-    symbols: PlacedSymbols<'a>,
+    symbols: Option<ArchiveSymbols<'a>>,
 }
 
-impl ItemRows for SymbolRows<'_> {
+impl Rows for SymbolRows<'_> {
     type Row = gm_archive_symbol;
 
-    ghost Source = { List ℕ };
-
-    ghost Item = { Result IndexSymbol Fault };
-
-    ghost left = { λ it. placed_symbols_left it.symbols };
-
-    ghost IsOver = { λ bytes it. AreSymbolsOver bytes it.symbols };
-
-    ghost Says = { SaysArchiveSymbol };
+    ghost left = { λ it. map rows.row_of_symbol (index_symbols_left it.symbols) };
 
     fn next(&mut self) -> Option<gm_archive_symbol> {
-        match self.symbols.next()? {
-            Ok(placed) => Some(symbol_row(&placed)),
-            Err(why) => Some(no_symbol(code_of(&why))),
+        match &mut self.symbols {
+            Some(symbols) => match symbols.next()? {
+                Ok(symbol) => Some(symbol_row(&symbol)),
+                Err(why) => Some(no_symbol(code_of(&why))),
+            },
+            None => None,
         }
     }
+}
+
+// Returns the rows of the members of the archive in these bytes.
+fn members_of(bytes: &[u8]) -> Result<MemberRows<'_>>
+    ensures { Reads (λ it. members_left it.members) result (members_in bytes.now) }
+{
+    Ok(MemberRows {
+        members: Archive::parse(bytes)?.members(),
+    })
+}
+
+// Returns the rows of the symbols of the archive in these bytes.
+fn symbols_of(bytes: &[u8]) -> Result<SymbolRows<'_>>
+    ensures { Reads (λ it. index_symbols_left it.symbols) result (index_symbols_in bytes.now) }
+{
+    Ok(SymbolRows {
+        symbols: Archive::parse(bytes)?.symbols()?,
+    })
 }
 
 /// Writes the members of an archive from index `first` on, as many as there are and fit, and returns how many. If a header has a
@@ -193,13 +190,16 @@ pub extern "C" fn gmr_archive_members(
     first: usize,
     out: &mut [gm_archive_member],
 ) -> usize
-    ensures { FillsBy (SaysMember bytes.now) (drop first (archive_members bytes.now)) out.old out.new result }
+    ensures rows { Fills (drop first (map rows.row_of_member (archive_members bytes.now))) out.old out.new result }
+    ensures names { AreNamesThere bytes.now (archive_members bytes.now) }
 {
-    let mut rows = MemberRows {
-        members: PlacedMembers::of(bytes),
-    };
-    skip_items(&mut rows, first);
-    fill_items(&mut rows, out)
+    match members_of(bytes) {
+        Ok(mut rows) => {
+            skip(&mut rows, first);
+            fill(&mut rows, out)
+        }
+        Err(why) => fill_one(no_member(code_of(&why)), first, out),
+    }
 }
 
 /// Writes the symbols of an archive's index from index `first` on, in the order of its table, as many as there are and fit, and
@@ -211,13 +211,53 @@ pub extern "C" fn gmr_archive_symbols(
     first: usize,
     out: &mut [gm_archive_symbol],
 ) -> usize
-    ensures { FillsBy (SaysArchiveSymbol bytes.now) (drop first (archive_symbols bytes.now)) out.old out.new result }
+    ensures rows { Fills (drop first (map rows.row_of_symbol (archive_symbols bytes.now))) out.old out.new result }
+    ensures names { AreSymbolNamesThere bytes.now (archive_symbols bytes.now) }
 {
-    let mut rows = SymbolRows {
-        symbols: PlacedSymbols::of(bytes),
-    };
-    skip_items(&mut rows, first);
-    fill_items(&mut rows, out)
+    match symbols_of(bytes) {
+        Ok(mut rows) => {
+            skip(&mut rows, first);
+            fill(&mut rows, out)
+        }
+        Err(why) => fill_one(no_symbol(code_of(&why)), first, out),
+    }
+}
+
+/// Which archive some bytes are.
+#[derive(Clone, Copy, Debug, PartialEq)]
+enum ArchiveForm {
+    /// They don't begin as an archive.
+    NoArchive,
+    /// Short names end with a slash; long ones are in a list of names.
+    Gnu,
+    /// Short names end with a space; long ones come after their headers.
+    Bsd,
+    /// Its members are other files, and aren't read.
+    Thin,
+}
+
+// Returns the form of a kind of archive.
+fn form_of_kind(kind: ArchiveKind) -> ArchiveForm
+    ensures { result ≡ form_of_kind kind }
+{
+    match kind {
+        ArchiveKind::Gnu => ArchiveForm::Gnu,
+        ArchiveKind::Bsd => ArchiveForm::Bsd,
+    }
+}
+
+// Returns which archive some bytes are, by their first 8 bytes and the members at the start. It is refused if they begin as an
+// archive whose start can't be read.
+fn form_of(bytes: &[u8]) -> Result<ArchiveForm>
+    ensures { Reads (λ form. form) result (archive_form bytes.now) }
+{
+    if bytes.starts_with(b"!<thin>\n") {
+        return Ok(ArchiveForm::Thin);
+    }
+    if !bytes.starts_with(b"!<arch>\n") {
+        return Ok(ArchiveForm::NoArchive);
+    }
+    Ok(form_of_kind(Archive::parse(bytes)?.kind()))
 }
 
 // Returns the number of a form.

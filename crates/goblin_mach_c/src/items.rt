@@ -42,15 +42,3 @@ pub fn fill_items<R: ItemRows>(rows: &mut R, out: &mut [R::Row]) -> usize
     }
     out.len()
 }
-
-/// Skips `count` items, or all if there are fewer.
-pub fn skip_items<R: ItemRows>(rows: &mut R, count: usize)
-    ensures rest { (x : R.Source) → R.IsOver x rows.old → R.left rows.new ≡ drop count (R.left rows.old) }
-    ensures over { (x : R.Source) → R.IsOver x rows.old → R.IsOver x rows.new }
-{
-    for _ in 0..count {
-        let Some(_) = rows.next() else {
-            return;
-        };
-    }
-}

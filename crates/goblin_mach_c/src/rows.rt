@@ -1,6 +1,6 @@
 //! Rows one after the other, and the caller's array that they are written to.
 
-ghost use Rattle.std.specs.Prelude.{◌≡◌, ◌<◌, ◌^◌, List, drop, length};
+ghost use Rattle.std.specs.Prelude.{◌≡◌, ◌<◌, ◌^◌, List, [], ◌∷◌, drop, length, option_to_list};
 ghost use Rattle.std.specs.Iterator.{YieldsFirst};
 ghost use Rattle.goblin_mach_c.specs.Fill.{Fills, WritesFound};
 
@@ -40,6 +40,25 @@ pub fn skip<R: Rows>(rows: &mut R, count: usize)
             return;
         };
     }
+}
+
+impl<T: Copy> Rows for Option<T> {
+    type Row = T;
+
+    ghost left = { option_to_list };
+
+    fn next(&mut self) -> Option<T> {
+        self.take()
+    }
+}
+
+/// Writes the only row of a list from index `first` on, if it is there and fits, and returns how many.
+pub fn fill_one<T: Copy>(row: T, first: usize, out: &mut [T]) -> usize
+    ensures { Fills (drop first (row ∷ [])) out.old out.new result }
+{
+    let mut rows = Some(row);
+    skip(&mut rows, first);
+    fill(&mut rows, out)
 }
 
 /// Returns how many rows are left, and leaves none.

@@ -1,6 +1,4 @@
 pub mod AloneSites
 pub mod WeakNames
 pub mod SameMore
-pub mod Standing
-pub mod ArchiveListed
 mod PlacesHeld

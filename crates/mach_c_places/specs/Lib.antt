@@ -2,8 +2,4 @@ pub mod Ranges
 pub mod SitesAlone
 pub mod WeakCursors
 pub mod RebaseCursors
-pub mod ArchivePlaces
-pub mod ArchiveItems
-pub mod PlacedItems
-pub mod ArchiveFinds
 pub mod SignaturePlaces

@@ -3,11 +3,9 @@
 #![forbid(unsafe_code)]
 
 use crate::generated::goblin_mach_c::errors::{GM_OK, code_of, gm_error, refuse};
-use crate::generated::goblin_mach_c::items::{ItemRows, fill_items, skip_items};
-use crate::generated::mach_c_places::{
-    ArchiveForm, PlacedMember, PlacedMembers, PlacedSymbol, PlacedSymbols, form_of,
-};
+use crate::generated::goblin_mach_c::rows::{Rows, fill, fill_one, skip};
 use goblin_mach::Result;
+use goblin_mach::archive::{Archive, ArchiveKind, ArchiveSymbol, ArchiveSymbols, Member, Members};
 
 /// A member of an archive: the offsets of its header, its bytes and its name, and the numbers of the header, each `GM_NO_NUMBER`
 /// if its field is no number.
@@ -55,12 +53,11 @@ fn name_numbers(reported: &Result<(usize, usize)>) -> (usize, usize, u32) {
 ///
 /// <details><summary>Proved</summary>
 ///
-/// - `result ≡ rows.member_row (placed_member_view placed)`
+/// - `result ≡ rows.member_row (member_view member)`
 ///
 /// </details>
-pub fn member_row(placed: &PlacedMember<'_>) -> gm_archive_member {
-    let member = &placed.member;
-    let (name, name_len, name_code) = name_numbers(&placed.name);
+pub fn member_row(member: &Member<'_>) -> gm_archive_member {
+    let (name, name_len, name_code) = name_numbers(&member.name_at());
     gm_archive_member {
         date: member.date().unwrap_or(u64::MAX),
         uid: member.uid().unwrap_or(u64::MAX),
@@ -100,13 +97,12 @@ pub fn no_member(code: u32) -> gm_archive_member {
 }
 
 // Returns a symbol as C sees it.
-fn symbol_row(placed: &PlacedSymbol<'_>) -> gm_archive_symbol {
-    let (name, name_len, code) = name_numbers(&placed.name);
+fn symbol_row(symbol: &ArchiveSymbol<'_>) -> gm_archive_symbol {
     gm_archive_symbol {
-        member: placed.symbol.member,
-        name,
-        name_len,
-        code,
+        member: symbol.member,
+        name: symbol.name_at,
+        name_len: symbol.name.len(),
+        code: GM_OK,
         reserved: 0,
     }
 }
@@ -123,35 +119,54 @@ fn no_symbol(code: u32) -> gm_archive_symbol {
 }
 
 // The members of an archive that are left.
+#[derive(Clone, Copy)]
 struct MemberRows<'a> {
-    members: PlacedMembers<'a>,
+    members: Members<'a>,
 }
 
-impl ItemRows for MemberRows<'_> {
+impl Rows for MemberRows<'_> {
     type Row = gm_archive_member;
 
     fn next(&mut self) -> Option<gm_archive_member> {
         match self.members.next()? {
-            Ok(placed) => Some(member_row(&placed)),
+            Ok(member) => Some(member_row(&member)),
             Err(why) => Some(no_member(code_of(&why))),
         }
     }
 }
 
-// The symbols of an archive's index that are left.
+// The symbols of an archive's index that are left; none without an index.
+#[derive(Clone, Copy)]
 struct SymbolRows<'a> {
-    symbols: PlacedSymbols<'a>,
+    symbols: Option<ArchiveSymbols<'a>>,
 }
 
-impl ItemRows for SymbolRows<'_> {
+impl Rows for SymbolRows<'_> {
     type Row = gm_archive_symbol;
 
     fn next(&mut self) -> Option<gm_archive_symbol> {
-        match self.symbols.next()? {
-            Ok(placed) => Some(symbol_row(&placed)),
-            Err(why) => Some(no_symbol(code_of(&why))),
+        match &mut self.symbols {
+            Some(symbols) => match symbols.next()? {
+                Ok(symbol) => Some(symbol_row(&symbol)),
+                Err(why) => Some(no_symbol(code_of(&why))),
+            },
+            None => None,
         }
     }
+}
+
+// Returns the rows of the members of the archive in these bytes.
+fn members_of(bytes: &[u8]) -> Result<MemberRows<'_>> {
+    Ok(MemberRows {
+        members: Archive::parse(bytes)?.members(),
+    })
+}
+
+// Returns the rows of the symbols of the archive in these bytes.
+fn symbols_of(bytes: &[u8]) -> Result<SymbolRows<'_>> {
+    Ok(SymbolRows {
+        symbols: Archive::parse(bytes)?.symbols()?,
+    })
 }
 
 /// Writes the members of an archive from index `first` on, as many as there are and fit, and returns how many. If a header has a
@@ -159,15 +174,18 @@ impl ItemRows for SymbolRows<'_> {
 ///
 /// <details><summary>Proved</summary>
 ///
-/// - `FillsBy (SaysMember bytes) (drop first (archive_members bytes)) out.old out.new result`
+/// - *rows*: `Fills (drop first (map rows.row_of_member (archive_members bytes))) out.old out.new result`
+/// - *names*: `AreNamesThere bytes (archive_members bytes)`
 ///
 /// </details>
 pub fn gmr_archive_members(bytes: &[u8], first: usize, out: &mut [gm_archive_member]) -> usize {
-    let mut rows = MemberRows {
-        members: PlacedMembers::of(bytes),
-    };
-    skip_items(&mut rows, first);
-    fill_items(&mut rows, out)
+    match members_of(bytes) {
+        Ok(mut rows) => {
+            skip(&mut rows, first);
+            fill(&mut rows, out)
+        }
+        Err(why) => fill_one(no_member(code_of(&why)), first, out),
+    }
 }
 
 /// Writes the symbols of an archive's index from index `first` on, in the order of its table, as many as there are and fit, and
@@ -176,15 +194,51 @@ pub fn gmr_archive_members(bytes: &[u8], first: usize, out: &mut [gm_archive_mem
 ///
 /// <details><summary>Proved</summary>
 ///
-/// - `FillsBy (SaysArchiveSymbol bytes) (drop first (archive_symbols bytes)) out.old out.new result`
+/// - *rows*: `Fills (drop first (map rows.row_of_symbol (archive_symbols bytes))) out.old out.new result`
+/// - *names*: `AreSymbolNamesThere bytes (archive_symbols bytes)`
 ///
 /// </details>
 pub fn gmr_archive_symbols(bytes: &[u8], first: usize, out: &mut [gm_archive_symbol]) -> usize {
-    let mut rows = SymbolRows {
-        symbols: PlacedSymbols::of(bytes),
-    };
-    skip_items(&mut rows, first);
-    fill_items(&mut rows, out)
+    match symbols_of(bytes) {
+        Ok(mut rows) => {
+            skip(&mut rows, first);
+            fill(&mut rows, out)
+        }
+        Err(why) => fill_one(no_symbol(code_of(&why)), first, out),
+    }
+}
+
+/// Which archive some bytes are.
+#[derive(Clone, Copy, Debug, PartialEq)]
+enum ArchiveForm {
+    /// They don't begin as an archive.
+    NoArchive,
+    /// Short names end with a slash; long ones are in a list of names.
+    Gnu,
+    /// Short names end with a space; long ones come after their headers.
+    Bsd,
+    /// Its members are other files, and aren't read.
+    Thin,
+}
+
+// Returns the form of a kind of archive.
+fn form_of_kind(kind: ArchiveKind) -> ArchiveForm {
+    match kind {
+        ArchiveKind::Gnu => ArchiveForm::Gnu,
+        ArchiveKind::Bsd => ArchiveForm::Bsd,
+    }
+}
+
+// Returns which archive some bytes are, by their first 8 bytes and the members at the start. It is refused if they begin as an
+// archive whose start can't be read.
+fn form_of(bytes: &[u8]) -> Result<ArchiveForm> {
+    if bytes.starts_with(b"!<thin>\n") {
+        return Ok(ArchiveForm::Thin);
+    }
+    if !bytes.starts_with(b"!<arch>\n") {
+        return Ok(ArchiveForm::NoArchive);
+    }
+    Ok(form_of_kind(Archive::parse(bytes)?.kind()))
 }
 
 // Returns the number of a form.

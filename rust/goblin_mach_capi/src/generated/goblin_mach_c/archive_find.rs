@@ -4,13 +4,58 @@
 
 use crate::generated::goblin_mach_c::archive::{gm_archive_member, member_row, no_member};
 use crate::generated::goblin_mach_c::errors::{GM_OK, gm_error, refuse};
-use crate::generated::mach_c_places::{PlacedMember, member_named, member_of_symbol};
-use goblin_mach::Error;
+use goblin_mach::archive::{Archive, Member, Members};
+use goblin_mach::{Error, Result};
+
+// Returns the member that defines a symbol, by the index of an archive.
+fn found_by_symbol<'a>(archive: &Archive<'a>, name: &str) -> Result<Option<Member<'a>>> {
+    archive.find_symbol(name)
+}
+
+// Returns the member that defines a symbol, by the index of the archive in these bytes.
+fn member_of_symbol<'a>(bytes: &'a [u8], name: &str) -> Result<Option<Member<'a>>> {
+    let archive = Archive::parse(bytes)?;
+    found_by_symbol(&archive, name)
+}
+
+// Whether a member has this name. A member whose name can't be read doesn't.
+fn has_name(member: &Member<'_>, name: &[u8]) -> bool {
+    match member.name_bytes() {
+        Ok(own) => own == name,
+        Err(_) => false,
+    }
+}
+
+// Returns the first of some members with a name, or the fault before it.
+fn first_of_name<'a>(mut members: Members<'a>, name: &[u8]) -> Result<Option<Member<'a>>> {
+    loop {
+        match members.next() {
+            None => return Ok(None),
+            Some(Ok(member)) => {
+                if has_name(&member, name) {
+                    return Ok(Some(member));
+                }
+            }
+            Some(Err(why)) => return Err(why),
+        }
+    }
+}
+
+// Returns the first member of an archive with a name, or the fault before it.
+fn first_of<'a>(archive: &Archive<'a>, name: &[u8]) -> Result<Option<Member<'a>>> {
+    first_of_name(archive.members(), name)
+}
+
+// Returns the first member of the archive in these bytes with a name. If a header before it has a fault, that is the error.
+fn member_named<'a>(bytes: &'a [u8], name: &[u8]) -> Result<Option<Member<'a>>> {
+    let archive = Archive::parse(bytes)?;
+    first_of(&archive, name)
+}
 
 // Returns the row of a member that was looked up, if it was found.
-fn found_row(found: &Option<PlacedMember<'_>>) -> gm_archive_member {
+fn found_row(found: &Option<Member<'_>>) -> gm_archive_member {
     match found {
-        Some(placed) => member_row(placed),
+        Some(member) => member_row(member),
         None => no_member(GM_OK),
     }
 }
@@ -21,7 +66,8 @@ fn found_row(found: &Option<PlacedMember<'_>>) -> gm_archive_member {
 ///
 /// <details><summary>Proved</summary>
 ///
-/// - *found*: if `result ≡ 0`, `FindsMember bytes (member_by_symbol bytes symbol) member.new`
+/// - *found*: if `result ≡ 0`, `FindsMember (member_by_symbol bytes symbol) member.new`
+/// - *name*: for each `m : MemberView`, if `member_by_symbol bytes symbol ≡ Ok (Some m)`, `NameIsThere bytes m`
 /// - *refused*: if `result ≢ 0`, if `IsUtf8 symbol`, `IsCodeOf (member_by_symbol bytes symbol) result`
 /// - *no text*: if if `IsUtf8 symbol`, `⊥`, `result ≡ 1`
 /// - *kept*: if `result ≢ 0`, `member.new ≡ member.old`
@@ -52,7 +98,8 @@ pub fn gmr_archive_find(
 ///
 /// <details><summary>Proved</summary>
 ///
-/// - *found*: if `result ≡ 0`, `FindsMember bytes (member_by_name bytes name) member.new`
+/// - *found*: if `result ≡ 0`, `FindsMember (member_by_name bytes name) member.new`
+/// - *name*: for each `m : MemberView`, if `member_by_name bytes name ≡ Ok (Some m)`, `NameIsThere bytes m`
 /// - *refused*: if `result ≢ 0`, `IsCodeOf (member_by_name bytes name) result`
 /// - *kept*: if `result ≢ 0`, `member.new ≡ member.old`
 /// - *reported*: if `result ≢ 0`, `error.new.code ≡ result`

@@ -36,19 +36,3 @@ pub fn fill_items<R: ItemRows>(rows: &mut R, out: &mut [R::Row]) -> usize {
     }
     out.len()
 }
-
-/// Skips `count` items, or all if there are fewer.
-///
-/// <details><summary>Proved</summary>
-///
-/// - *rest*: for each `x : R.Source`, if `R.IsOver x rows.old`, `R.left rows.new ≡ drop count (R.left rows.old)`
-/// - *over*: for each `x : R.Source`, if `R.IsOver x rows.old`, `R.IsOver x rows.new`
-///
-/// </details>
-pub fn skip_items<R: ItemRows>(rows: &mut R, count: usize) {
-    for _ in 0..count {
-        let Some(_) = rows.next() else {
-            return;
-        };
-    }
-}

@@ -50,6 +50,27 @@ pub fn skip<R: Rows>(rows: &mut R, count: usize) {
     }
 }
 
+impl<T: Copy> Rows for Option<T> {
+    type Row = T;
+
+    fn next(&mut self) -> Option<T> {
+        self.take()
+    }
+}
+
+/// Writes the only row of a list from index `first` on, if it is there and fits, and returns how many.
+///
+/// <details><summary>Proved</summary>
+///
+/// - `Fills (drop first (row ∷ [])) out.old out.new result`
+///
+/// </details>
+pub fn fill_one<T: Copy>(row: T, first: usize, out: &mut [T]) -> usize {
+    let mut rows = Some(row);
+    skip(&mut rows, first);
+    fill(&mut rows, out)
+}
+
 /// Returns how many rows are left, and leaves none.
 ///
 /// <details><summary>Proved</summary>
