@@ -122,3 +122,30 @@ fn prefixes() {
     assert_eq!(bytes.len(), 274);
     assert_eq!(opened_prefixes(&bytes), 185);
 }
+
+#[test]
+fn names_are_at_their_places() {
+    let index = [&[0, 0, 0, 1, 0, 0, 0, 0][..], b"_ab\0"].concat();
+    let gnu = archive(&[
+        ("/", "12", &index),
+        ("//", "8", b"long.o/\n"),
+        ("/0", "0", b""),
+        ("a.o/", "0", b""),
+    ]);
+    let bsd = archive(&[("#1/4", "6", b"ab\0\0xy"), ("c.o", "0", b"")]);
+    for (bytes, want) in [
+        (&gnu, [("long.o", 140), ("a.o", 208)]),
+        (&bsd, [("ab", 68), ("c.o", 74)]),
+    ] {
+        let members = Archive::parse(bytes).unwrap().members();
+        let found: Vec<_> = members.map(|it| it.unwrap().name_at().unwrap()).collect();
+        for ((at, len), (name, place)) in found.iter().zip(want) {
+            assert_eq!((&bytes[*at..at + len], *at), (name.as_bytes(), place));
+        }
+        assert_eq!(found.len(), want.len());
+    }
+    let symbols = Archive::parse(&gnu).unwrap().symbols().unwrap().unwrap();
+    let places: Vec<_> = symbols.map(|it| it.unwrap().name_at).collect();
+    assert_eq!(places, [76]);
+    assert_eq!(&gnu[76..79], b"_ab");
+}

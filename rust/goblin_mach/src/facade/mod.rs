@@ -12,6 +12,8 @@ use alloc::string::{String, ToString};
 use core::iter::FusedIterator;
 use core::{fmt, ops};
 
+#[cfg(feature = "archive")]
+mod archive;
 #[cfg(feature = "signature")]
 pub mod audit;
 pub mod bytes;

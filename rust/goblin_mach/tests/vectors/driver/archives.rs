@@ -68,7 +68,7 @@ fn member(it: Member) -> String {
     format!(
         "member {} header {:#x} at {:#x} size {} date {} owner {} group {} mode {}",
         name_of(&it),
-        it.offset,
+        it.offset(),
         it.start,
         it.bytes.len(),
         number(it.date()),
