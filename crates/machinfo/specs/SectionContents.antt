@@ -1,5 +1,5 @@
 -- The strings of the sections of an image (`mach-o/loader.h`, S_CSTRING_LITERALS) as rows.
-use Rattle.std.specs.Prelude.{◌≡◌, ◌==◌, ◌++◌, ◌∷◌, ℕ, ◌+◌, ◌%◌, ◌^◌, bit_and, Bool, List, [], Option, Some, None, Result, Ok, Err, codes, length, map, nat_lt}
+use Rattle.std.specs.Prelude.{◌==◌, ◌++◌, ◌∷◌, ℕ, ◌+◌, ◌%◌, ◌^◌, bit_and, Bool, List, [], Option, Some, None, Result, Ok, Err, codes, length, map, nat_lt}
 use Rattle.std.specs.Prelude.{if◌then◌else◌}
 use Rattle.std.specs.Str.{is_utf8}
 use Rattle.mach_base.specs.declared.error.Error.{Error}

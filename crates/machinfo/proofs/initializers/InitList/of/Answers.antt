@@ -5,7 +5,6 @@ use Rattle.mach_base.specs.Fault.{Fault}
 use Rattle.mach_base.specs.declared.error.Error.{Error}
 use Rattle.goblin_mach.specs.ImageFacts.{facts_view}
 use Rattle.goblin_mach.specs.declared.initializers.Initializer.{Initializer}
-use Rattle.goblin_mach.specs.declared.macho.MachO.{MachO}
 use Rattle.machinfo.specs.Initializers.{init_fields, init_rows_left, symbol_by_facts}
 use Rattle.machinfo.specs.RowFields.{fields_read}
 use Rattle.machinfo.proofs.Facts.{init_fields_are}
@@ -23,13 +22,13 @@ no_fields seen there items none = ap (fields_read (init_fields seen)) none ∙ s
 pub returns-then-is_none : goal.returns-then-is_none
 returns-then-is_none g c = λ bytes opened.
     let m = c.args.image.now in
-    let items = init_rows_left c.of.result in
-    init_fields_are m bytes 0 opened items c.of.ensures.listed _
+    let items = init_rows_left c.of-rows.result in
+    init_fields_are m bytes 0 opened items c.of-rows.ensures.listed _
     (no_fields (λ address. None) (symbol_by_facts (facts_view m)) items
-    (c.of.ensures.none (no_first c.of.result.first (c.is_none.ensures ∙ ap not c.if-is_none.true))))
+    (c.of-rows.ensures.none (no_first c.of-rows.result.first (c.is_none.ensures ∙ ap not c.if-is_none.true))))
 
 pub returns-in-Ok : goal.returns-in-Ok
 returns-in-Ok g c = λ bytes opened.
-    let items = init_rows_left c.of.result in
-    init_fields_are c.args.image.now bytes 0 opened items c.of.ensures.listed _
-    (ap (λ (m : MachO g.A). fields_read (init_fields (symbol_by_facts (facts_view m))) items) c.in-Ok.ensures.mapped)
+    let items = init_rows_left c.of-rows.result in
+    init_fields_are c.args.image.now bytes 0 opened items c.of-rows.ensures.listed _
+    (ap (λ m. fields_read (init_fields (symbol_by_facts (facts_view m))) items) c.in-Ok.ensures.mapped)
